@@ -3,17 +3,17 @@ use Rattle.std.specs.Prelude.{is_some}
 use Rattle.std.proofs.Common.{◌≡◌, ℕ, ◌<◌, true, false, length}
 use Rattle.std.proofs.Common.{Option, Some, None, refl, sym, ◌∙◌, subst}
 use Rattle.std.proofs.Common.{arith, true≢false}
-use Rattle.link_lists.specs.Lists.{has}
-use Rattle.problem_rules.specs.Problem.{Problem}
-use Rattle.pgraph.specs.View.{node_of}
-use Rattle.unit_sets.specs.declared.node.Node as starts
-use Rattle.tree_rules.specs.Tree.{leaf}
-use Rattle.tree_rules.specs.Leaf.{charged}
-use Rattle.tree_rules.specs.Claim as claims
-use Rattle.tree_rules.specs.Claim.{claimed_cost}
-use Rattle.search_tree.specs.Cells.{cell_at}
-use Rattle.tree_rules.specs.Costs.{HasFallen}
-use Rattle.search_tree.specs.Values.{IsPositiveCost}
+use Rattle.node_evaluation.specs.link_lists.Lists.{has}
+use Rattle.pns_io.specs.problem_rules.Problem.{Problem}
+use Rattle.node_evaluation.specs.pgraph.View.{node_of}
+use Rattle.node_evaluation.specs.unit_sets.declared.node.Node as starts
+use Rattle.node_evaluation.specs.tree_rules.Tree.{leaf}
+use Rattle.node_evaluation.specs.tree_rules.Leaf.{charged}
+use Rattle.node_evaluation.specs.tree_rules.Claim as claims
+use Rattle.node_evaluation.specs.tree_rules.Claim.{claimed_cost}
+use Rattle.node_evaluation.specs.search_tree.Cells.{cell_at}
+use Rattle.node_evaluation.specs.tree_rules.Costs.{HasFallen}
+use Rattle.node_evaluation.specs.search_tree.Values.{IsPositiveCost}
 use Rattle.node_evaluation.specs.declared.evaluator.Charged.{Charged}
 use Rattle.node_evaluation.specs.Evaluated.{PastPlaces, IsChargeOf, cost_in, handed_in}
 use Rattle.node_evaluation.specs.Looks.{cost_of}

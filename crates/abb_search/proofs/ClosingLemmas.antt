@@ -5,22 +5,21 @@ use Rattle.std.proofs.Common.{◌≡◌, ℕ, ℤ, zero, suc, ◌+◌, ◌<◌, 
 use Rattle.std.proofs.Common.{◌∷◌, ◌++◌, length, Option, Some, None, inl, inr, refl, sym, ap, ◌∙◌}
 use Rattle.std.proofs.Common.{subst, arith, true≢false, length-append}
 use Rattle.std.proofs.lemmas.Bool.{cases_eq}
-use Rattle.integer_laws.specs.Range.{InRange, AllInRange}
-use Rattle.problem_rules.specs.Problem.{Problem}
-use Rattle.pns_rules.specs.Nodes.{Node}
-use Rattle.exact_numbers.specs.declared.number.Mixed.{Mixed}
-use Rattle.exact_numbers.specs.Number.{numerator, denominator}
-use Rattle.tree_rules.specs.Tree.{leaf}
-use Rattle.tree_rules.specs.Leaf.{bounded, IsBounded, Scaled}
-use Rattle.tree_rules.specs.Claim as claims
-use Rattle.tree_rules.specs.Claim.{CostOver}
-use Rattle.search_tree.specs.declared.shut.Shut.{Shut}
-use Rattle.search_tree.specs.Cells.{place_of, cell_at}
-use Rattle.search_tree.specs.Growth.{is_open, EndsOpen}
-use Rattle.search_tree.specs.Values.{IsPositive}
-use Rattle.tree_rules.specs.Costs.{IsNoMore}
-use Rattle.search_tree.proofs.GrowLemmas.{leaf_fallen}
-use Rattle.search_tree.proofs.OrderLemmas.{under_less, reached_any}
+use Rattle.node_evaluation.specs.integer_laws.Range.{InRange, AllInRange}
+use Rattle.pns_io.specs.problem_rules.Problem.{Problem}
+use Rattle.node_evaluation.specs.pns_rules.Nodes.{Node}
+use Rattle.node_evaluation.specs.exact_numbers.declared.number.Mixed.{Mixed}
+use Rattle.node_evaluation.specs.exact_numbers.Number.{numerator, denominator}
+use Rattle.node_evaluation.specs.tree_rules.Tree.{leaf}
+use Rattle.node_evaluation.specs.tree_rules.Leaf.{bounded, IsBounded, Scaled}
+use Rattle.node_evaluation.specs.tree_rules.Claim as claims
+use Rattle.node_evaluation.specs.tree_rules.Claim.{CostOver}
+use Rattle.node_evaluation.specs.search_tree.declared.shut.Shut.{Shut}
+use Rattle.node_evaluation.specs.search_tree.Cells.{place_of, cell_at}
+use Rattle.node_evaluation.specs.search_tree.Growth.{is_open, EndsOpen}
+use Rattle.node_evaluation.specs.search_tree.Values.{IsPositive}
+use Rattle.node_evaluation.specs.tree_rules.Costs.{IsNoMore}
+use Rattle.node_evaluation.proofs.search_tree.Cited.{leaf_fallen, under_less, reached_any}
 use Rattle.node_evaluation.specs.declared.evaluator.Bound.{Bound}
 use Rattle.node_evaluation.specs.declared.evaluator.LowerBound.{LowerBound}
 use Rattle.node_evaluation.specs.declared.evaluator.Proof.{Proof}

@@ -2,31 +2,30 @@
 use Rattle.std.specs.Prelude.{IfSome}
 use Rattle.std.proofs.Common.{◌≡◌, ℕ, ◌-◌, ◌<◌, true, List, [], ◌∷◌, length, Option, Some, None}
 use Rattle.std.proofs.Common.{refl, sym, ap, subst, arith, suc, ◌^◌, ◌+◌}
-use Rattle.problem_rules.specs.Problem.{Problem}
-use Rattle.pns_rules.specs.Shape.{shape_of}
-use Rattle.pns_rules.specs.Nodes.{Node}
-use Rattle.tree_rules.specs.Ways.{options_at}
-use Rattle.pgraph.specs.View.{node_of}
-use Rattle.tree_rules.specs.Tree.{End, leaf, Stands}
-use Rattle.unit_sets.specs.declared.node.Node as starts
-use Rattle.tree_rules.specs.Claim as claims
-use Rattle.tree_rules.specs.Claim.{CostOver, claimed_cost, ClaimPasses, IsSized}
-use Rattle.tree_rules.specs.Known.{KnowsTree, KnowsClaim}
-use Rattle.tree_rules.specs.Leaf.{Leaf, IsUntried, LeafPasses}
-use Rattle.tree_rules.specs.Accepted.{Tree}
-use Rattle.tree_rules.specs.Stops.{IsSpent, IsPast}
-use Rattle.search_tree.specs.Growth.{EndsOpen}
-use Rattle.search_tree.specs.Cells.{Cell, place_of, cell_at}
-use Rattle.search_tree.specs.Preorder.{IsPreorder, IsTreeOf, tree_of}
-use Rattle.search_tree.proofs.PassLemmas.{passes, aligned_start, cells_stand}
-use Rattle.search_tree.proofs.SpentLemmas.{never_spent}
-use Rattle.pns_rules.proofs.ProperLemmas.{proper_if_valid}
-use Rattle.problem_rules.specs.Validity.{IsValid}
-use Rattle.number_sets.specs.Sets.{listed}
+use Rattle.pns_io.specs.problem_rules.Problem.{Problem}
+use Rattle.node_evaluation.specs.pns_rules.Shape.{shape_of}
+use Rattle.node_evaluation.specs.pns_rules.Nodes.{Node}
+use Rattle.node_evaluation.specs.tree_rules.Ways.{options_at}
+use Rattle.node_evaluation.specs.pgraph.View.{node_of}
+use Rattle.node_evaluation.specs.tree_rules.Tree.{End, leaf, Stands}
+use Rattle.node_evaluation.specs.unit_sets.declared.node.Node as starts
+use Rattle.node_evaluation.specs.tree_rules.Claim as claims
+use Rattle.node_evaluation.specs.tree_rules.Claim.{CostOver, claimed_cost, ClaimPasses, IsSized}
+use Rattle.node_evaluation.specs.tree_rules.Known.{KnowsTree, KnowsClaim}
+use Rattle.node_evaluation.specs.tree_rules.Leaf.{Leaf, IsUntried, LeafPasses}
+use Rattle.node_evaluation.specs.tree_rules.Accepted.{Tree}
+use Rattle.node_evaluation.specs.tree_rules.Stops.{IsSpent, IsPast}
+use Rattle.node_evaluation.specs.search_tree.Growth.{EndsOpen}
+use Rattle.node_evaluation.specs.search_tree.Cells.{Cell, place_of, cell_at}
+use Rattle.node_evaluation.specs.search_tree.Preorder.{IsPreorder, IsTreeOf, tree_of}
+use Rattle.node_evaluation.proofs.search_tree.Cited.{passes, aligned_start, cells_stand}
+use Rattle.node_evaluation.proofs.search_tree.Cited.{never_spent, kept_is_lean}
+use Rattle.node_evaluation.proofs.search_tree.Cited.{whole_is_accepted, open_stands, kept_is_spent}
+use Rattle.node_evaluation.proofs.pns_rules.Cited.{proper_if_valid}
+use Rattle.pns_io.specs.problem_rules.Validity.{IsValid}
+use Rattle.node_evaluation.specs.number_sets.Sets.{listed}
 use Rattle.std.specs.List.{slice_get}
-use Rattle.search_tree.specs.Kept.{IsKept}
-use Rattle.search_tree.proofs.LeanLemmas.{kept_is_lean, whole_is_accepted, open_stands}
-use Rattle.search_tree.proofs.LeanLemmas.{kept_is_spent}
+use Rattle.node_evaluation.specs.search_tree.Kept.{IsKept}
 use Rattle.node_evaluation.specs.declared.evaluator.PastStop.{PastStop}
 use Rattle.node_evaluation.specs.Evaluated.{PastPlaces}
 use Rattle.node_evaluation.specs.Children.{claim_with}
@@ -34,7 +33,7 @@ use Rattle.abb_search.specs.declared.growing.Growing.{Growing}
 use Rattle.abb_search.specs.Growing.{IsTreeKept, IsStoppedAt}
 use Rattle.abb_search.specs.Closing.{IsSpentFor}
 use Rattle.abb_search.proofs.KnownLemmas.{knows_tree, few_nodes, knows_claim}
-use Rattle.tree_rules.specs.Proved.{IsProved, IsStopped, IsBelowLimit}
+use Rattle.node_evaluation.specs.tree_rules.Proved.{IsProved, IsStopped, IsBelowLimit}
 use Rattle.abb_search.specs.Found.{found_with, IsFoundBy}
 
 -- a claim of nothing has no cost, and neither has the claim that there is no network

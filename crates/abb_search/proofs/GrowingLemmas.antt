@@ -5,20 +5,21 @@ use Rattle.std.proofs.Common.{Some}
 use Rattle.std.proofs.Common.{None, refl, sym, ap, ◌∙◌, arith}
 use Rattle.std.specs.Prelude.{MatchOption, is_some}
 use Rattle.std.proofs.lemmas.List.{reverse-append, length-set, length-map, reverse-reverse}
-use Rattle.link_lists.specs.Lists.{has}
-use Rattle.problem_rules.specs.Problem.{Problem}
-use Rattle.pns_rules.specs.Shape.{shape_of}
-use Rattle.pns_rules.specs.Nodes.{Node}
-use Rattle.tree_rules.specs.Ways.{Way, width, options_at}
-use Rattle.tree_rules.specs.Tree.{branch}
-use Rattle.exact_numbers.specs.declared.number.Mixed.{Mixed}
-use Rattle.tree_rules.specs.Costs.{HasFallen}
+use Rattle.node_evaluation.specs.link_lists.Lists.{has}
+use Rattle.pns_io.specs.problem_rules.Problem.{Problem}
+use Rattle.node_evaluation.specs.pns_rules.Shape.{shape_of}
+use Rattle.node_evaluation.specs.pns_rules.Nodes.{Node}
+use Rattle.node_evaluation.specs.tree_rules.Ways.{Way, width, options_at}
+use Rattle.node_evaluation.specs.tree_rules.Tree.{branch}
+use Rattle.node_evaluation.specs.exact_numbers.declared.number.Mixed.{Mixed}
+use Rattle.node_evaluation.specs.tree_rules.Costs.{HasFallen}
 use Rattle.node_evaluation.specs.Looks.{cost_of}
-use Rattle.tree_rules.specs.Claim as claims
-use Rattle.search_tree.specs.Cells.{Cell, cell_at}
-use Rattle.search_tree.specs.Growth.{AreOpenAfter, as_parent, cells_in_turn, values_in_turn}
-use Rattle.search_tree.specs.declared.growth.Fresh.{Fresh}
-use Rattle.node_pool.specs.Pooled.{Pooled, AreSameNodes}
+use Rattle.node_evaluation.specs.tree_rules.Claim as claims
+use Rattle.node_evaluation.specs.search_tree.Cells.{Cell, cell_at}
+use Rattle.node_evaluation.specs.search_tree.Growth.{AreOpenAfter, as_parent, cells_in_turn}
+use Rattle.node_evaluation.specs.search_tree.Growth.{values_in_turn}
+use Rattle.node_evaluation.specs.search_tree.declared.growth.Fresh.{Fresh}
+use Rattle.node_evaluation.specs.node_pool.Pooled.{Pooled, AreSameNodes}
 use Rattle.node_evaluation.specs.declared.looks.Ready.{Ready}
 use Rattle.node_evaluation.specs.declared.children.StoppedAt.{StoppedAt}
 use Rattle.node_evaluation.specs.declared.children.Children.{Children}

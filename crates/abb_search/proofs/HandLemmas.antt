@@ -10,17 +10,17 @@ use Rattle.std.proofs.lemmas.List.{get_or_append_left, get_or-append-add, get_or
 use Rattle.std.proofs.lemmas.List.{get_or-set_other, length-set, length-map, append_assoc}
 use Rattle.std.proofs.lemmas.List.{append-nil, reverse-append}
 use Rattle.slab.specs.Slab.{Slab, get, Updates}
-use Rattle.problem_rules.specs.Problem.{Problem}
-use Rattle.pns_rules.specs.Nodes.{Node}
-use Rattle.exact_numbers.specs.declared.number.Mixed.{Mixed}
-use Rattle.tree_rules.specs.Ways.{Way}
-use Rattle.tree_rules.specs.Tree.{leaf}
-use Rattle.tree_rules.specs.Claim as claims
-use Rattle.tree_rules.specs.Claim.{CostOver}
-use Rattle.search_tree.specs.Cells.{Cell, no_cell, place_of, cell_at}
-use Rattle.search_tree.specs.Growth.{is_open, EndsOpen}
-use Rattle.search_tree.specs.declared.growth.Fresh.{Fresh}
-use Rattle.search_tree.specs.Turns.{IsFreshChild, AreChildren}
+use Rattle.pns_io.specs.problem_rules.Problem.{Problem}
+use Rattle.node_evaluation.specs.pns_rules.Nodes.{Node}
+use Rattle.node_evaluation.specs.exact_numbers.declared.number.Mixed.{Mixed}
+use Rattle.node_evaluation.specs.tree_rules.Ways.{Way}
+use Rattle.node_evaluation.specs.tree_rules.Tree.{leaf}
+use Rattle.node_evaluation.specs.tree_rules.Claim as claims
+use Rattle.node_evaluation.specs.tree_rules.Claim.{CostOver}
+use Rattle.node_evaluation.specs.search_tree.Cells.{Cell, no_cell, place_of, cell_at}
+use Rattle.node_evaluation.specs.search_tree.Growth.{is_open, EndsOpen}
+use Rattle.node_evaluation.specs.search_tree.declared.growth.Fresh.{Fresh}
+use Rattle.node_evaluation.specs.search_tree.Turns.{IsFreshChild, AreChildren}
 use Rattle.node_evaluation.specs.declared.looks.Worth.{Worth}
 use Rattle.node_evaluation.specs.declared.looks.Ready.{Ready}
 use Rattle.node_evaluation.specs.Evaluated.{PastPlaces}

@@ -7,19 +7,19 @@ use Rattle.std.specs.Prelude.{IfSome}
 use Rattle.std.proofs.lemmas.Bool.{cases_eq, cases_lt}
 use Rattle.std.proofs.lemmas.List.{get_or_append_left, get_or-append-add, get_or-set_same}
 use Rattle.std.proofs.lemmas.List.{get_or-set_other, length-set, length-map}
-use Rattle.number_sets.proofs.SetLemmas.{below_from}
-use Rattle.problem_rules.specs.Each.{Each}
-use Rattle.problem_rules.specs.Problem.{Problem}
-use Rattle.tree_rules.specs.Claim as claims
-use Rattle.tree_rules.specs.Claim.{ClaimPasses, IsSized}
-use Rattle.tree_rules.specs.Tree.{End, leaf}
-use Rattle.tree_rules.specs.Leaf.{Leaf}
-use Rattle.tree_rules.specs.Known.{KnowsNode, KnowsEnd, KnowsTree, KnowsClaim}
-use Rattle.search_tree.specs.Growth.{EndsOpen}
-use Rattle.search_tree.specs.Cells.{Cell, no_cell, cell_at, children_at, IsLinked}
-use Rattle.search_tree.specs.Preorder.{IsPreorder, tree_of, node_at}
-use Rattle.search_tree.proofs.CountLemmas.{preorder_has_all}
-use Rattle.search_tree.proofs.TreeLemmas.{AreThere, there-append, children_there}
+use Rattle.node_evaluation.proofs.number_sets.Cited.{below_from}
+use Rattle.pns_io.specs.problem_rules.Each.{Each}
+use Rattle.pns_io.specs.problem_rules.Problem.{Problem}
+use Rattle.node_evaluation.specs.tree_rules.Claim as claims
+use Rattle.node_evaluation.specs.tree_rules.Claim.{ClaimPasses, IsSized}
+use Rattle.node_evaluation.specs.tree_rules.Tree.{End, leaf}
+use Rattle.node_evaluation.specs.tree_rules.Leaf.{Leaf}
+use Rattle.node_evaluation.specs.tree_rules.Known.{KnowsNode, KnowsEnd, KnowsTree, KnowsClaim}
+use Rattle.node_evaluation.specs.search_tree.Growth.{EndsOpen}
+use Rattle.node_evaluation.specs.search_tree.Cells.{Cell, no_cell, cell_at, children_at, IsLinked}
+use Rattle.node_evaluation.specs.search_tree.Preorder.{IsPreorder, tree_of, node_at}
+use Rattle.node_evaluation.proofs.search_tree.Cited.{preorder_has_all, AreThere, there-append}
+use Rattle.node_evaluation.proofs.search_tree.Cited.{children_there}
 use Rattle.node_evaluation.specs.Looks.{is_bounded, has_bounded, KnowsCell}
 use Rattle.node_evaluation.specs.Children.{claim_with}
 

@@ -1,4 +1,5 @@
 pub mod ChargingLemmas
+pub mod Cited
 pub mod ShuttingLemmas
 pub mod ClosingLemmas
 pub mod EndLemmas
@@ -16,3 +17,5 @@ pub mod StepLemmas
 pub mod TurnLemmas
 pub mod WatchLemmas
 pub mod WorthLemmas
+pub use Rattle.node_evaluation.proofs.search_tree as search_tree
+pub use Rattle.node_evaluation.proofs as node_evaluation

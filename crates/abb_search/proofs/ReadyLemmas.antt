@@ -6,13 +6,14 @@ use Rattle.std.specs.declared.cmp.Ordering.{Ordering}
 use Rattle.std.specs.declared.cmp.Ordering.TheVariants.{Less, Equal, Greater}
 use Rattle.std.proofs.lemmas.Cmp.{int_ranked}
 use Rattle.std.proofs.lemmas.Int.{ints}
-use Rattle.link_lists.specs.Lists.{has, first}
-use Rattle.link_lists.proofs.Cells.{has-here}
-use Rattle.node_pool.specs.Order.{second}
+use Rattle.node_evaluation.specs.link_lists.Lists.{has, first}
+use Rattle.node_evaluation.proofs.link_lists.Cited.{has-here}
+use Rattle.node_evaluation.specs.node_pool.Order.{second}
 use Rattle.std.proofs.lemmas.Bool.{or_right}
-use Rattle.tree_rules.specs.Tree.{End, branch, leaf}
-use Rattle.tree_rules.specs.Leaf.{Leaf, dead, clash, refuted, bounded, charged, untried}
-use Rattle.search_tree.specs.Growth.{is_open, EndsOpen}
+use Rattle.node_evaluation.specs.tree_rules.Tree.{End, branch, leaf}
+use Rattle.node_evaluation.specs.tree_rules.Leaf.{Leaf, dead, clash, refuted, bounded, charged}
+use Rattle.node_evaluation.specs.tree_rules.Leaf.{untried}
+use Rattle.node_evaluation.specs.search_tree.Growth.{is_open, EndsOpen}
 
 pub open_leaf : (e : End Leaf) → is_open e ≡ true → EndsOpen e
 open_leaf (branch w) h = absurd (true≢false (sym h))

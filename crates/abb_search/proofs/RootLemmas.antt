@@ -3,30 +3,31 @@ use Rattle.std.specs.Prelude.{is_some}
 use Rattle.std.proofs.Common.{◌≡◌, ◌⊎◌, inl, inr, ℕ, ◌≤◌, Bool, true, false, cond, ◌||◌, List, []}
 use Rattle.std.proofs.Common.{◌∷◌, length, Option, Some, None, refl, sym, ap, ◌∙◌, subst, arith}
 use Rattle.std.proofs.Common.{true≢false}
-use Rattle.problem_rules.specs.Problem.{Problem}
-use Rattle.pns_rules.specs.Shape.{shape_of}
-use Rattle.pns_rules.specs.Nodes.{Node}
-use Rattle.pns_rules.specs.Ends.{IsSound}
-use Rattle.pgraph.specs.View.{node_of}
-use Rattle.unit_sets.specs.declared.node.Node as starts
-use Rattle.exact_numbers.specs.declared.number.Mixed.{Mixed}
-use Rattle.tree_rules.specs.Tree.{End, leaf}
-use Rattle.tree_rules.specs.Claim as claims
-use Rattle.tree_rules.specs.Claim.{CostOver, claimed_cost, ClaimPasses}
-use Rattle.tree_rules.specs.Leaf.{Leaf, dead, clash, refuted, bounded, charged, untried, LeafPasses}
-use Rattle.search_tree.specs.Cells.{Cell, place_of, cell_at, AreBehind}
-use Rattle.search_tree.specs.Fits.{Follows, EndFits}
-use Rattle.search_tree.specs.Growth.{is_open, EndsOpen}
-use Rattle.link_lists.specs.Lists.{has}
+use Rattle.pns_io.specs.problem_rules.Problem.{Problem}
+use Rattle.node_evaluation.specs.pns_rules.Shape.{shape_of}
+use Rattle.node_evaluation.specs.pns_rules.Nodes.{Node}
+use Rattle.node_evaluation.specs.pns_rules.Ends.{IsSound}
+use Rattle.node_evaluation.specs.pgraph.View.{node_of}
+use Rattle.node_evaluation.specs.unit_sets.declared.node.Node as starts
+use Rattle.node_evaluation.specs.exact_numbers.declared.number.Mixed.{Mixed}
+use Rattle.node_evaluation.specs.tree_rules.Tree.{End, leaf}
+use Rattle.node_evaluation.specs.tree_rules.Claim as claims
+use Rattle.node_evaluation.specs.tree_rules.Claim.{CostOver, claimed_cost, ClaimPasses}
+use Rattle.node_evaluation.specs.tree_rules.Leaf.{Leaf, dead, clash, refuted, bounded, charged}
+use Rattle.node_evaluation.specs.tree_rules.Leaf.{untried, LeafPasses}
+use Rattle.node_evaluation.specs.search_tree.Cells.{Cell, place_of, cell_at, AreBehind}
+use Rattle.node_evaluation.specs.search_tree.Fits.{Follows, EndFits}
+use Rattle.node_evaluation.specs.search_tree.Growth.{is_open, EndsOpen}
+use Rattle.node_evaluation.specs.link_lists.Lists.{has}
 use Rattle.std.proofs.lemmas.Bool.{or_right}
-use Rattle.search_tree.specs.Values.{IsPositiveCost}
-use Rattle.search_tree.proofs.GrowLemmas.{leaf_fallen}
-use Rattle.search_tree.specs.Kept.{LeafIsKept, EndIsKept, IsKept}
+use Rattle.node_evaluation.specs.search_tree.Values.{IsPositiveCost}
+use Rattle.node_evaluation.proofs.search_tree.Cited.{leaf_fallen}
+use Rattle.node_evaluation.specs.search_tree.Kept.{LeafIsKept, EndIsKept, IsKept}
 use Rattle.node_evaluation.specs.declared.evaluator.PastStop.{PastStop}
 use Rattle.node_evaluation.specs.Evaluated.{PastPlaces}
 use Rattle.node_evaluation.specs.Looks.{is_bounded, has_bounded, cost_of, KnowsCell, IsStop}
 use Rattle.node_evaluation.specs.Looks.{IsOpenAs}
-use Rattle.node_evaluation.proofs.ChildLemmas.{cost_is, found_best}
+use Rattle.node_evaluation.proofs.Cited.{cost_is, found_best}
 use Rattle.node_evaluation.specs.Children.{claim_with, IsBest}
 use Rattle.abb_search.specs.Hand.{AreAtHand, with_key}
 use Rattle.abb_search.proofs.HandLemmas.{IsSameChild, child_same, hand_more}

@@ -2,18 +2,18 @@
 use Rattle.std.specs.Prelude.{is_some, slice_index_or, OnErr}
 use Rattle.std.proofs.Common.{◌≡◌, ℕ, ◌-◌, ◌^◌, ◌<◌, Bool, true, false, List, length, Option, Some}
 use Rattle.std.proofs.Common.{None, Result, Ok, Err, inl, inr, refl, sym, ap, ◌∙◌, subst, arith}
-use Rattle.link_lists.specs.Lists.{has}
-use Rattle.problem_rules.specs.Problem.{Problem}
-use Rattle.pgraph.specs.View.{node_of}
-use Rattle.unit_sets.specs.declared.node.Node as starts
-use Rattle.exact_numbers.specs.declared.number.Mixed.{Mixed}
-use Rattle.tree_rules.specs.Tree.{leaf}
-use Rattle.tree_rules.specs.Claim as claims
-use Rattle.tree_rules.specs.Claim.{CostOver, claimed_cost, ClaimPasses}
+use Rattle.node_evaluation.specs.link_lists.Lists.{has}
+use Rattle.pns_io.specs.problem_rules.Problem.{Problem}
+use Rattle.node_evaluation.specs.pgraph.View.{node_of}
+use Rattle.node_evaluation.specs.unit_sets.declared.node.Node as starts
+use Rattle.node_evaluation.specs.exact_numbers.declared.number.Mixed.{Mixed}
+use Rattle.node_evaluation.specs.tree_rules.Tree.{leaf}
+use Rattle.node_evaluation.specs.tree_rules.Claim as claims
+use Rattle.node_evaluation.specs.tree_rules.Claim.{CostOver, claimed_cost, ClaimPasses}
 use Rattle.slab.specs.Slab.{get}
-use Rattle.search_tree.specs.Growth.{EndsOpen}
-use Rattle.search_tree.specs.Cells.{Cell, place_of, cell_at}
-use Rattle.search_tree.specs.Kept.{IsKeptFor}
+use Rattle.node_evaluation.specs.search_tree.Growth.{EndsOpen}
+use Rattle.node_evaluation.specs.search_tree.Cells.{Cell, place_of, cell_at}
+use Rattle.node_evaluation.specs.search_tree.Kept.{IsKeptFor}
 use Rattle.node_evaluation.specs.declared.evaluator.PastStop.{PastStop}
 use Rattle.node_evaluation.specs.declared.looks.Ready.{Ready}
 use Rattle.node_evaluation.specs.Evaluated.{PastPlaces}

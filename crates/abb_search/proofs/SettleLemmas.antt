@@ -6,20 +6,21 @@ use Rattle.std.specs.Prelude.{IfOk}
 use Rattle.std.specs.List.{slice_get}
 use Rattle.std.proofs.lemmas.Bool.{cases_eq, and_parts, and_from, not-true}
 use Rattle.std.proofs.lemmas.List.{length-set}
-use Rattle.link_lists.specs.Lists.{has, without}
+use Rattle.node_evaluation.specs.link_lists.Lists.{has, without}
 use Rattle.slab.specs.Slab.{Slab, Updates}
-use Rattle.problem_rules.specs.Problem.{Problem}
-use Rattle.pns_rules.specs.Shape.{shape_of}
-use Rattle.pns_rules.specs.Ends.{IsReduced}
-use Rattle.exact_numbers.specs.declared.number.Mixed.{Mixed}
-use Rattle.tree_rules.specs.Tree.{leaf}
-use Rattle.tree_rules.specs.Leaf.{IsRefuted}
-use Rattle.tree_rules.specs.Claim.{CostOver}
-use Rattle.node_pool.specs.Order.{placed}
-use Rattle.node_pool.specs.Pooled.{with_shut, with_value}
-use Rattle.search_tree.specs.Cells.{place_of, cell_at}
-use Rattle.search_tree.specs.Growth.{is_open, EndsOpen}
-use Rattle.search_tree.proofs.GrowthLemmas.{placed_new, placed_stays, others_stay, without_gone}
+use Rattle.pns_io.specs.problem_rules.Problem.{Problem}
+use Rattle.node_evaluation.specs.pns_rules.Shape.{shape_of}
+use Rattle.node_evaluation.specs.pns_rules.Ends.{IsReduced}
+use Rattle.node_evaluation.specs.exact_numbers.declared.number.Mixed.{Mixed}
+use Rattle.node_evaluation.specs.tree_rules.Tree.{leaf}
+use Rattle.node_evaluation.specs.tree_rules.Leaf.{IsRefuted}
+use Rattle.node_evaluation.specs.tree_rules.Claim.{CostOver}
+use Rattle.node_evaluation.specs.node_pool.Order.{placed}
+use Rattle.node_evaluation.specs.node_pool.Pooled.{with_shut, with_value}
+use Rattle.node_evaluation.specs.search_tree.Cells.{place_of, cell_at}
+use Rattle.node_evaluation.specs.search_tree.Growth.{is_open, EndsOpen}
+use Rattle.node_evaluation.proofs.search_tree.Cited.{placed_new, placed_stays, others_stay}
+use Rattle.node_evaluation.proofs.search_tree.Cited.{without_gone}
 use Rattle.node_evaluation.specs.declared.evaluator.Bound.{Bound}
 use Rattle.node_evaluation.specs.declared.looks.Worth.{Worth}
 use Rattle.node_evaluation.specs.declared.looks.Worth.TheVariants.{Settled, Refuted}

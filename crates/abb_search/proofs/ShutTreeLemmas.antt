@@ -3,28 +3,29 @@ use Rattle.std.specs.Prelude.{IfSome, is_some}
 use Rattle.std.proofs.Common.{◌≡◌, ◌⊎◌, ℕ, ℤ, suc, ◌-◌, ◌^◌, ◌<◌, Bool, true, false, ◌||◌, List, []}
 use Rattle.std.proofs.Common.{◌∷◌, length, Option, Some, None, inl, inr, refl, sym, ap, ◌∙◌, subst}
 use Rattle.std.proofs.Common.{arith, true≢false}
-use Rattle.integer_laws.specs.Range.{InRange, AllInRange}
-use Rattle.problem_rules.specs.Problem.{Problem}
-use Rattle.pns_rules.specs.Nodes.{Node}
-use Rattle.pgraph.specs.View.{node_of}
-use Rattle.tree_rules.specs.Tree.{End, branch, leaf}
-use Rattle.tree_rules.specs.Leaf.{Leaf, Scaled, dead, clash, refuted, bounded, charged, untried}
-use Rattle.tree_rules.specs.Leaf.{IsBounded, LeafPasses}
-use Rattle.tree_rules.specs.Claim as claims
-use Rattle.tree_rules.specs.Claim.{CostOver, claimed_cost, IsSized}
-use Rattle.tree_rules.specs.Known.{KnowsEnd}
-use Rattle.tree_rules.specs.Accepted.{Tree}
-use Rattle.search_tree.specs.declared.shut.Shut.{Shut}
-use Rattle.search_tree.specs.declared.shut.Shut.TheVariants as shuts
-use Rattle.search_tree.specs.Cells.{Cell, place_of, cell_at}
-use Rattle.search_tree.specs.Growth.{is_open, as_shut, EndsOpen}
-use Rattle.search_tree.specs.Preorder.{IsTreeOf}
-use Rattle.search_tree.specs.Shut.{shut_as, shut_end, shut_cells}
-use Rattle.search_tree.proofs.ShutLemmas.{closed_stays, unproved_stays, proof_of, shut_length}
-use Rattle.search_tree.proofs.ShutLemmas.{shut_at}
-use Rattle.search_tree.specs.Turns.{IsShut, AreShut}
-use Rattle.search_tree.proofs.KeptLemmas.{shutting_is_kept}
-use Rattle.exact_numbers.specs.declared.number.Mixed.{Mixed}
+use Rattle.node_evaluation.specs.integer_laws.Range.{InRange, AllInRange}
+use Rattle.pns_io.specs.problem_rules.Problem.{Problem}
+use Rattle.node_evaluation.specs.pns_rules.Nodes.{Node}
+use Rattle.node_evaluation.specs.pgraph.View.{node_of}
+use Rattle.node_evaluation.specs.tree_rules.Tree.{End, branch, leaf}
+use Rattle.node_evaluation.specs.tree_rules.Leaf.{Leaf, Scaled, dead, clash, refuted, bounded}
+use Rattle.node_evaluation.specs.tree_rules.Leaf.{charged, untried}
+use Rattle.node_evaluation.specs.tree_rules.Leaf.{IsBounded, LeafPasses}
+use Rattle.node_evaluation.specs.tree_rules.Claim as claims
+use Rattle.node_evaluation.specs.tree_rules.Claim.{CostOver, claimed_cost, IsSized}
+use Rattle.node_evaluation.specs.tree_rules.Known.{KnowsEnd}
+use Rattle.node_evaluation.specs.tree_rules.Accepted.{Tree}
+use Rattle.node_evaluation.specs.search_tree.declared.shut.Shut.{Shut}
+use Rattle.node_evaluation.specs.search_tree.declared.shut.Shut.TheVariants as shuts
+use Rattle.node_evaluation.specs.search_tree.Cells.{Cell, place_of, cell_at}
+use Rattle.node_evaluation.specs.search_tree.Growth.{is_open, as_shut, EndsOpen}
+use Rattle.node_evaluation.specs.search_tree.Preorder.{IsTreeOf}
+use Rattle.node_evaluation.specs.search_tree.Shut.{shut_as, shut_end, shut_cells}
+use Rattle.node_evaluation.proofs.search_tree.Cited.{closed_stays, unproved_stays, proof_of}
+use Rattle.node_evaluation.proofs.search_tree.Cited.{shut_length, shut_at}
+use Rattle.node_evaluation.proofs.search_tree.Cited.{shutting_is_kept}
+use Rattle.node_evaluation.specs.search_tree.Turns.{IsShut, AreShut}
+use Rattle.node_evaluation.specs.exact_numbers.declared.number.Mixed.{Mixed}
 use Rattle.node_evaluation.specs.declared.looks.Ready.{Ready}
 use Rattle.node_evaluation.specs.declared.looks.Worth.{Worth}
 use Rattle.node_evaluation.specs.declared.looks.Worth.TheVariants as worths

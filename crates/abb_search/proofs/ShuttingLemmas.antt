@@ -5,22 +5,21 @@ use Rattle.std.proofs.Common.{slice_set, Option, Some, None, inl, inr, refl, sym
 use Rattle.std.proofs.Common.{arith, true≢false}
 use Rattle.std.proofs.lemmas.Bool.{cases_eq}
 use Rattle.std.proofs.lemmas.List.{length-set, get_or-set_same, get_or-set_other}
-use Rattle.link_lists.specs.Lists.{has, without}
+use Rattle.node_evaluation.specs.link_lists.Lists.{has, without}
 use Rattle.slab.specs.Slab.{get}
-use Rattle.problem_rules.specs.Problem.{Problem}
-use Rattle.pgraph.specs.View.{node_of}
-use Rattle.unit_sets.specs.declared.node.Node as starts
-use Rattle.exact_numbers.specs.declared.number.Mixed.{Mixed}
-use Rattle.tree_rules.specs.Tree.{leaf}
-use Rattle.tree_rules.specs.Leaf.{Leaf}
-use Rattle.tree_rules.specs.Claim as claims
-use Rattle.tree_rules.specs.Claim.{CostOver, claimed_cost, ClaimPasses}
-use Rattle.search_tree.specs.Cells.{Cell, no_cell, cell_at}
-use Rattle.search_tree.specs.Growth.{EndsOpen, as_shut}
-use Rattle.search_tree.proofs.GrowthLemmas.{others_stay, without_gone}
-use Rattle.search_tree.specs.Kept.{IsKeptFor}
-use Rattle.search_tree.specs.Turns.{AreShut, IsShut}
-use Rattle.search_tree.proofs.KeptLemmas.{shutting_is_kept}
+use Rattle.pns_io.specs.problem_rules.Problem.{Problem}
+use Rattle.node_evaluation.specs.pgraph.View.{node_of}
+use Rattle.node_evaluation.specs.unit_sets.declared.node.Node as starts
+use Rattle.node_evaluation.specs.exact_numbers.declared.number.Mixed.{Mixed}
+use Rattle.node_evaluation.specs.tree_rules.Tree.{leaf}
+use Rattle.node_evaluation.specs.tree_rules.Leaf.{Leaf}
+use Rattle.node_evaluation.specs.tree_rules.Claim as claims
+use Rattle.node_evaluation.specs.tree_rules.Claim.{CostOver, claimed_cost, ClaimPasses}
+use Rattle.node_evaluation.specs.search_tree.Cells.{Cell, no_cell, cell_at}
+use Rattle.node_evaluation.specs.search_tree.Growth.{EndsOpen, as_shut}
+use Rattle.node_evaluation.proofs.search_tree.Cited.{others_stay, without_gone, shutting_is_kept}
+use Rattle.node_evaluation.specs.search_tree.Kept.{IsKeptFor}
+use Rattle.node_evaluation.specs.search_tree.Turns.{AreShut, IsShut}
 use Rattle.node_evaluation.specs.Evaluated.{PastPlaces}
 use Rattle.node_evaluation.specs.Looks.{has_bounded, is_bounded_leaf}
 use Rattle.node_evaluation.specs.Children.{claim_with}

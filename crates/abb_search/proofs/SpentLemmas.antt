@@ -2,26 +2,26 @@
 -- are shut and others have bounds.
 use Rattle.std.proofs.Common.{◌≡◌, ℕ, ◌+◌, ◌<◌, true, List, [], length, Option, Some, None, refl}
 use Rattle.std.proofs.Common.{sym, ap, ◌∙◌, subst, arith, inl, inr, true≢false}
-use Rattle.link_lists.specs.Lists.{has}
-use Rattle.problem_rules.specs.Problem.{Problem}
-use Rattle.problem_rules.specs.Validity.{IsValid}
-use Rattle.pns_rules.specs.Shape.{shape_of}
-use Rattle.pns_rules.specs.Nodes.{Node}
-use Rattle.pns_rules.specs.Ends.{IsDead, IsNever, IsReduced}
-use Rattle.tree_rules.specs.Ways.{MayBranch, options_at, IsDecision}
-use Rattle.tree_rules.specs.Claim.{CostOver, claimed_cost}
-use Rattle.tree_rules.specs.Leaf.{Scaled}
-use Rattle.tree_rules.specs.Lean.{MayUndercut, IsNoDearer}
-use Rattle.tree_rules.specs.Stops.{IsPending, IsNextCount}
-use Rattle.search_tree.specs.Growth.{EndsOpen}
-use Rattle.search_tree.specs.declared.shut.Shut.{Shut}
-use Rattle.search_tree.specs.Cells.{place_of, cell_at}
-use Rattle.search_tree.specs.Shut.{shut_cells}
-use Rattle.search_tree.proofs.ShutLemmas.{proof_of, shut_length}
-use Rattle.search_tree.specs.Values.{IsPositiveCost}
+use Rattle.node_evaluation.specs.link_lists.Lists.{has}
+use Rattle.pns_io.specs.problem_rules.Problem.{Problem}
+use Rattle.pns_io.specs.problem_rules.Validity.{IsValid}
+use Rattle.node_evaluation.specs.pns_rules.Shape.{shape_of}
+use Rattle.node_evaluation.specs.pns_rules.Nodes.{Node}
+use Rattle.node_evaluation.specs.pns_rules.Ends.{IsDead, IsNever, IsReduced}
+use Rattle.node_evaluation.specs.tree_rules.Ways.{MayBranch, options_at, IsDecision}
+use Rattle.node_evaluation.specs.tree_rules.Claim.{CostOver, claimed_cost}
+use Rattle.node_evaluation.specs.tree_rules.Leaf.{Scaled}
+use Rattle.node_evaluation.specs.tree_rules.Lean.{MayUndercut, IsNoDearer}
+use Rattle.node_evaluation.specs.tree_rules.Stops.{IsPending, IsNextCount}
+use Rattle.node_evaluation.specs.search_tree.Growth.{EndsOpen}
+use Rattle.node_evaluation.specs.search_tree.declared.shut.Shut.{Shut}
+use Rattle.node_evaluation.specs.search_tree.Cells.{place_of, cell_at}
+use Rattle.node_evaluation.specs.search_tree.Shut.{shut_cells}
+use Rattle.node_evaluation.proofs.search_tree.Cited.{proof_of, shut_length}
+use Rattle.node_evaluation.specs.search_tree.Values.{IsPositiveCost}
 use Rattle.node_evaluation.specs.declared.choice.Choice.{Choice}
 use Rattle.node_evaluation.specs.Choices.{IsChoice, way_of, option_count}
-use Rattle.node_evaluation.proofs.ChoiceLemmas.{option_count_is, next_count}
+use Rattle.node_evaluation.proofs.Cited.{option_count_is, next_count}
 use Rattle.node_evaluation.specs.declared.looks.Ready.{Ready}
 use Rattle.node_evaluation.specs.declared.looks.Worth.{Worth}
 use Rattle.node_evaluation.specs.declared.looks.Worth.TheVariants as worths

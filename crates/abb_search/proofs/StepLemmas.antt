@@ -2,29 +2,28 @@
 use Rattle.std.specs.Prelude.{IfOk}
 use Rattle.std.proofs.Common.{◌≡◌, ℕ, ◌<◌, Bool, true, false, List, length, Option, Some, None}
 use Rattle.std.proofs.Common.{Result, Ok, Err, refl, sym, ap, ◌∙◌, subst, arith}
-use Rattle.problem_rules.specs.Problem.{Problem}
-use Rattle.pns_rules.specs.Shape.{shape_of}
-use Rattle.pns_rules.specs.Ends.{IsSound}
-use Rattle.pgraph.specs.View.{node_of}
-use Rattle.neutral_extension.specs.Candidates.{AreMakersOf}
-use Rattle.unit_sets.specs.declared.node.Node as starts
-use Rattle.tree_rules.specs.Claim as claims
-use Rattle.tree_rules.specs.Claim.{CostOver, ClaimPasses}
+use Rattle.pns_io.specs.problem_rules.Problem.{Problem}
+use Rattle.node_evaluation.specs.pns_rules.Shape.{shape_of}
+use Rattle.node_evaluation.specs.pns_rules.Ends.{IsSound}
+use Rattle.node_evaluation.specs.pgraph.View.{node_of}
+use Rattle.node_evaluation.specs.neutral_extension.Candidates.{AreMakersOf}
+use Rattle.node_evaluation.specs.unit_sets.declared.node.Node as starts
+use Rattle.node_evaluation.specs.tree_rules.Claim as claims
+use Rattle.node_evaluation.specs.tree_rules.Claim.{CostOver, ClaimPasses}
 use Rattle.std.proofs.lemmas.Int.{ints}
-use Rattle.tree_rules.specs.Costs.{HasFallen}
-use Rattle.search_tree.specs.Values.{IsPositiveCost}
-use Rattle.search_tree.proofs.FractionLemmas.{fraction_trans}
-use Rattle.pns_rules.specs.Nodes.{Node}
-use Rattle.tree_rules.specs.Accepted.{Tree}
-use Rattle.node_pool.specs.Pooled.{Pooled}
-use Rattle.search_tree.specs.Cells.{Cell, IsLinked}
-use Rattle.search_tree.specs.Preorder.{IsTreeOf, node_at}
-use Rattle.search_tree.proofs.CountLemmas.{preorder_has_all}
+use Rattle.node_evaluation.specs.tree_rules.Costs.{HasFallen}
+use Rattle.node_evaluation.specs.search_tree.Values.{IsPositiveCost}
+use Rattle.node_evaluation.proofs.search_tree.Cited.{fraction_trans, preorder_has_all}
+use Rattle.node_evaluation.specs.pns_rules.Nodes.{Node}
+use Rattle.node_evaluation.specs.tree_rules.Accepted.{Tree}
+use Rattle.node_evaluation.specs.node_pool.Pooled.{Pooled}
+use Rattle.node_evaluation.specs.search_tree.Cells.{Cell, IsLinked}
+use Rattle.node_evaluation.specs.search_tree.Preorder.{IsTreeOf, node_at}
 use Rattle.std.proofs.lemmas.List.{length-map}
 use Rattle.node_evaluation.specs.Evaluated.{PastPlaces, cost_in}
 use Rattle.node_evaluation.specs.Looks.{cost_of}
 use Rattle.node_evaluation.specs.Children.{claim_with, IsBest}
-use Rattle.node_evaluation.proofs.ChildLemmas.{cost_is}
+use Rattle.node_evaluation.proofs.Cited.{cost_is}
 use Rattle.abb_search.specs.declared.outcome.Found.{Found}
 use Rattle.abb_search.specs.declared.outcome.Found.TheVariants as founds
 use Rattle.abb_search.specs.declared.growing.Growing.{Growing}

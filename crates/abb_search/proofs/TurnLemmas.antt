@@ -7,43 +7,42 @@ use Rattle.std.specs.List.{slice_get}
 use Rattle.std.proofs.lemmas.Bool.{cases_eq, cases_lt, or_cases, or_left, or_right, eqb-true}
 use Rattle.std.proofs.lemmas.Cmp.{int_ranked}
 use Rattle.std.specs.declared.cmp.Ordering.TheVariants.{Greater}
-use Rattle.unit_sets.specs.declared.node.Node as starts
+use Rattle.node_evaluation.specs.unit_sets.declared.node.Node as starts
 use Rattle.std.proofs.lemmas.Int.{ints}
 use Rattle.std.proofs.lemmas.List.{length-map}
-use Rattle.link_lists.specs.Lists.{has, first}
-use Rattle.problem_rules.specs.Problem.{Problem}
-use Rattle.problem_rules.specs.Validity.{IsValid}
-use Rattle.pns_rules.specs.Shape.{shape_of}
-use Rattle.pns_rules.specs.Nodes.{Node}
-use Rattle.pns_rules.specs.Ends.{IsSound}
-use Rattle.pgraph.specs.View.{node_of}
-use Rattle.exact_numbers.specs.declared.number.Mixed.{Mixed}
-use Rattle.exact_numbers.specs.Number.{numerator, denominator}
-use Rattle.node_pool.specs.Order.{second, IsRising}
-use Rattle.node_pool.specs.Order as orders
-use Rattle.tree_rules.specs.Ways.{width}
-use Rattle.tree_rules.specs.Tree.{branch, leaf}
-use Rattle.tree_rules.specs.Claim as claims
-use Rattle.tree_rules.specs.Claim.{CostOver, claimed_cost, IsAtMost}
-use Rattle.tree_rules.specs.Leaf.{untried}
-use Rattle.tree_rules.specs.Lean as lean
-use Rattle.tree_rules.specs.Lean.{HasCheaper}
-use Rattle.tree_rules.specs.Stops.{IsPending}
-use Rattle.search_tree.specs.Cells.{Cell, place_of, cell_at}
-use Rattle.search_tree.specs.declared.growth.Fresh.{Fresh}
-use Rattle.search_tree.specs.Growth.{AreOpenAfter, as_parent, EndsOpen}
-use Rattle.search_tree.specs.Values.{IsPositive, IsPositiveCost}
-use Rattle.tree_rules.specs.Costs.{IsNoMore, HasFallen}
-use Rattle.search_tree.specs.Kept.{IsKeptFor}
-use Rattle.search_tree.specs.Turns.{CanBranch, IsLeastOpen, AreChildren, IsBranched}
+use Rattle.node_evaluation.specs.link_lists.Lists.{has, first}
+use Rattle.pns_io.specs.problem_rules.Problem.{Problem}
+use Rattle.pns_io.specs.problem_rules.Validity.{IsValid}
+use Rattle.node_evaluation.specs.pns_rules.Shape.{shape_of}
+use Rattle.node_evaluation.specs.pns_rules.Nodes.{Node}
+use Rattle.node_evaluation.specs.pns_rules.Ends.{IsSound}
+use Rattle.node_evaluation.specs.pgraph.View.{node_of}
+use Rattle.node_evaluation.specs.exact_numbers.declared.number.Mixed.{Mixed}
+use Rattle.node_evaluation.specs.exact_numbers.Number.{numerator, denominator}
+use Rattle.node_evaluation.specs.node_pool.Order.{second, IsRising}
+use Rattle.node_evaluation.specs.node_pool.Order as orders
+use Rattle.node_evaluation.specs.tree_rules.Ways.{width}
+use Rattle.node_evaluation.specs.tree_rules.Tree.{branch, leaf}
+use Rattle.node_evaluation.specs.tree_rules.Claim as claims
+use Rattle.node_evaluation.specs.tree_rules.Claim.{CostOver, claimed_cost, IsAtMost}
+use Rattle.node_evaluation.specs.tree_rules.Leaf.{untried}
+use Rattle.node_evaluation.specs.tree_rules.Lean as lean
+use Rattle.node_evaluation.specs.tree_rules.Lean.{HasCheaper}
+use Rattle.node_evaluation.specs.tree_rules.Stops.{IsPending}
+use Rattle.node_evaluation.specs.search_tree.Cells.{Cell, place_of, cell_at}
+use Rattle.node_evaluation.specs.search_tree.declared.growth.Fresh.{Fresh}
+use Rattle.node_evaluation.specs.search_tree.Growth.{AreOpenAfter, as_parent, EndsOpen}
+use Rattle.node_evaluation.specs.search_tree.Values.{IsPositive, IsPositiveCost}
+use Rattle.node_evaluation.specs.tree_rules.Costs.{IsNoMore, HasFallen}
+use Rattle.node_evaluation.specs.search_tree.Kept.{IsKeptFor}
+use Rattle.node_evaluation.specs.search_tree.Turns.{CanBranch, IsLeastOpen, AreChildren, IsBranched}
 use Rattle.node_evaluation.specs.declared.choice.Choice.{Choice}
 use Rattle.node_evaluation.specs.declared.choice.Choice.TheVariants as choices
 use Rattle.node_evaluation.specs.Choices.{IsChoice, way_of, option_count}
-use Rattle.search_tree.proofs.FractionLemmas.{fraction_trans}
-use Rattle.search_tree.proofs.KeptLemmas.{branching_is_kept}
-use Rattle.search_tree.proofs.OrderLemmas.{under_less, reached_is_no_dearer, reached_may_undercut}
-use Rattle.search_tree.proofs.OrderLemmas.{reached_any}
-use Rattle.search_tree.proofs.StepLemmas.{growth_branches}
+use Rattle.node_evaluation.proofs.search_tree.Cited.{fraction_trans, branching_is_kept, under_less}
+use Rattle.node_evaluation.proofs.search_tree.Cited.{reached_is_no_dearer, reached_may_undercut}
+use Rattle.node_evaluation.proofs.search_tree.Cited.{reached_any}
+use Rattle.node_evaluation.proofs.search_tree.Cited.{growth_branches}
 use Rattle.node_evaluation.specs.declared.evaluator.Interval.{Interval}
 use Rattle.node_evaluation.specs.declared.looks.Ready.{Ready}
 use Rattle.node_evaluation.specs.declared.children.StoppedAt.{StoppedAt}
@@ -52,7 +51,8 @@ use Rattle.node_evaluation.specs.Evaluated.{PastPlaces, cost_over, cost_in}
 use Rattle.node_evaluation.specs.Looks.{has_bounded, cost_of, IsReady, IsSomeReady, IsStop}
 use Rattle.node_evaluation.specs.Children.{claim_with, IsBest, IsImproved, cells_of, values_of}
 use Rattle.node_evaluation.specs.Children.{AreReady, StopHolds, AreSeen}
-use Rattle.node_evaluation.proofs.BestLemmas.{improved_after, children_after}
+use Rattle.node_evaluation.proofs.Cited.{improved_after, children_after, may_branch, decides}
+use Rattle.node_evaluation.proofs.Cited.{option_count_is, undecided_there, end_known}
 use Rattle.abb_search.specs.declared.growing.Growing.{Growing}
 use Rattle.abb_search.specs.declared.growing.StoppedLeaf.{StoppedLeaf}
 use Rattle.abb_search.specs.Worth.{interval_of, refutation_of, is_refuted, is_settled, is_put_off}
@@ -70,8 +70,6 @@ use Rattle.abb_search.proofs.HandLemmas.{hand_freed, hand_more, kept, children_s
 use Rattle.abb_search.proofs.HandLemmas.{as_many_children, known_children, children_kept}
 use Rattle.abb_search.proofs.HandLemmas.{bounded_same}
 use Rattle.abb_search.proofs.GrowingLemmas.{count_seen}
-use Rattle.node_evaluation.proofs.ChoiceLemmas.{may_branch, decides, option_count_is}
-use Rattle.node_evaluation.proofs.ChoiceLemmas.{undecided_there, end_known}
 use Rattle.abb_search.proofs.KnownLemmas.{AreKnown, known_set, known_more, known_end, bounded_set}
 use Rattle.abb_search.proofs.KnownLemmas.{bounded_more, open_unbounded}
 

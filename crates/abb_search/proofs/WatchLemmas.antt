@@ -2,7 +2,7 @@
 use Rattle.std.proofs.Common.{◌≡◌, ℕ, ◌==◌, Bool, true, false, cond, List, [], ◌∷◌, Option, Some}
 use Rattle.std.proofs.Common.{None, refl, sym, ap, ◌∙◌}
 use Rattle.std.proofs.lemmas.Bool.{or_right}
-use Rattle.link_lists.specs.Lists.{has, first, following}
+use Rattle.node_evaluation.specs.link_lists.Lists.{has, first, following}
 use Rattle.abb_search.proofs.ReadyLemmas.{first_has}
 
 pub following_has : (c : ℕ) (xs : List ℕ) (d : ℕ) → following c xs ≡ Some d → has xs d ≡ true

@@ -4,17 +4,17 @@ use Rattle.std.proofs.Common.{◌≡◌, ℕ, ℤ, true, false, List, Option, So
 use Rattle.std.proofs.Common.{arith, true≢false}
 use Rattle.std.specs.Prelude.{is_some}
 use Rattle.std.proofs.lemmas.Int.{ints}
-use Rattle.problem_rules.specs.Problem.{Problem}
-use Rattle.pns_rules.specs.Nodes.{Node}
-use Rattle.flow_rules.specs.Net.{net_of}
-use Rattle.flow_rules.specs.Relaxed.{IsRelaxed}
-use Rattle.flow_rules.proofs.DualityLemmas.{refuted_is_empty}
-use Rattle.exact_numbers.specs.declared.number.Mixed.{Mixed}
-use Rattle.exact_numbers.specs.Number.{numerator, denominator}
-use Rattle.exact_numbers.specs.MixedOrderLaws.{denominator_positive}
-use Rattle.tree_rules.specs.Leaf.{IsRefuted, multiplier}
-use Rattle.tree_rules.specs.Lean.{HasCheaper, IsNoDearer}
-use Rattle.search_tree.specs.Values.{IsPositive, IsUnder}
+use Rattle.pns_io.specs.problem_rules.Problem.{Problem}
+use Rattle.node_evaluation.specs.pns_rules.Nodes.{Node}
+use Rattle.node_evaluation.specs.flow_rules.Net.{net_of}
+use Rattle.node_evaluation.specs.flow_rules.Relaxed.{IsRelaxed}
+use Rattle.node_evaluation.proofs.flow_rules.Cited.{refuted_is_empty}
+use Rattle.node_evaluation.specs.exact_numbers.declared.number.Mixed.{Mixed}
+use Rattle.node_evaluation.specs.exact_numbers.Number.{numerator, denominator}
+use Rattle.node_evaluation.specs.exact_numbers.MixedOrderLaws.{denominator_positive}
+use Rattle.node_evaluation.specs.tree_rules.Leaf.{IsRefuted, multiplier}
+use Rattle.node_evaluation.specs.tree_rules.Lean.{HasCheaper, IsNoDearer}
+use Rattle.node_evaluation.specs.search_tree.Values.{IsPositive, IsUnder}
 use Rattle.node_evaluation.specs.declared.evaluator.Interval.{Interval}
 use Rattle.node_evaluation.specs.declared.evaluator.Bound.{Bound}
 use Rattle.node_evaluation.specs.declared.looks.Worth.{Worth}

@@ -1,11 +1,11 @@
 -- What a turn answers.
 use Rattle.std.specs.Prelude.{◌≡◌, ℕ, ◌<◌, length, Option, Some, None}
-use Rattle.problem_rules.specs.Problem.{Problem}
-use Rattle.pgraph.specs.View.{node_of}
-use Rattle.tree_rules.specs.Claim as claims
-use Rattle.tree_rules.specs.Accepted.{Tree}
-use Rattle.tree_rules.specs.Costs.{HasFallen}
-use Rattle.search_tree.specs.Values.{IsPositiveCost}
+use Rattle.pns_io.specs.problem_rules.Problem.{Problem}
+use Rattle.node_evaluation.specs.pgraph.View.{node_of}
+use Rattle.node_evaluation.specs.tree_rules.Claim as claims
+use Rattle.node_evaluation.specs.tree_rules.Accepted.{Tree}
+use Rattle.node_evaluation.specs.tree_rules.Costs.{HasFallen}
+use Rattle.node_evaluation.specs.search_tree.Values.{IsPositiveCost}
 use Rattle.node_evaluation.specs.Evaluated.{PastPlaces}
 use Rattle.node_evaluation.specs.Looks.{cost_of}
 use Rattle.abb_search.specs.declared.outcome.Found.{Found}

@@ -1,11 +1,11 @@
 -- Open leaves are shut by charges.
 use Rattle.std.specs.Prelude.{◌≡◌, ℕ, ◌<◌, true, length}
-use Rattle.link_lists.specs.Lists.{has}
-use Rattle.problem_rules.specs.Problem.{Problem}
-use Rattle.tree_rules.specs.Leaf.{IsCharged}
-use Rattle.tree_rules.specs.Known.{KnowsCharge}
-use Rattle.tree_rules.specs.Claim.{claimed_cost}
-use Rattle.search_tree.specs.Cells.{place_of, cell_at}
+use Rattle.node_evaluation.specs.link_lists.Lists.{has}
+use Rattle.pns_io.specs.problem_rules.Problem.{Problem}
+use Rattle.node_evaluation.specs.tree_rules.Leaf.{IsCharged}
+use Rattle.node_evaluation.specs.tree_rules.Known.{KnowsCharge}
+use Rattle.node_evaluation.specs.tree_rules.Claim.{claimed_cost}
+use Rattle.node_evaluation.specs.search_tree.Cells.{place_of, cell_at}
 use Rattle.node_evaluation.specs.declared.evaluator.Charged.{Charged}
 use Rattle.node_evaluation.specs.Evaluated.{PastPlaces, handed_in}
 use Rattle.node_evaluation.specs.Children.{claim_with}

@@ -4,25 +4,25 @@ use Rattle.std.specs.Prelude.{◌≡◌, ◌⊎◌, ℕ, ◌+◌, ℤ, ◌<◌, 
 use Rattle.std.specs.Prelude.{Option, Some, None}
 use Rattle.std.specs.Prelude.{slice_index_or}
 use Rattle.std.specs.List.{slice_get}
-use Rattle.link_lists.specs.Lists.{has}
-use Rattle.integer_laws.specs.Range.{InRange, AllInRange}
-use Rattle.problem_rules.specs.Problem.{Problem}
-use Rattle.pns_rules.specs.Shape.{shape_of}
-use Rattle.pns_rules.specs.Nodes.{Node}
-use Rattle.exact_numbers.specs.declared.number.Mixed.{Mixed}
-use Rattle.tree_rules.specs.Ways.{Way, options_at}
-use Rattle.tree_rules.specs.Tree.{leaf}
-use Rattle.tree_rules.specs.Claim as claims
-use Rattle.tree_rules.specs.Claim.{CostOver}
-use Rattle.tree_rules.specs.Leaf.{IsRefuted, IsBounded, IsLow, Scaled}
-use Rattle.tree_rules.specs.Lean.{MayUndercut}
-use Rattle.tree_rules.specs.Stops.{IsPending, IsNextCount}
-use Rattle.search_tree.specs.declared.shut.Shut.{Shut}
-use Rattle.search_tree.specs.declared.shut.Shut.TheVariants as shuts
-use Rattle.search_tree.specs.Cells.{Cell, place_of, cell_at}
-use Rattle.tree_rules.specs.Costs.{IsNoMore}
-use Rattle.search_tree.specs.Turns.{CanBranch, IsLeastOpen}
-use Rattle.search_tree.specs.Growth.{is_open, EndsOpen}
+use Rattle.node_evaluation.specs.link_lists.Lists.{has}
+use Rattle.node_evaluation.specs.integer_laws.Range.{InRange, AllInRange}
+use Rattle.pns_io.specs.problem_rules.Problem.{Problem}
+use Rattle.node_evaluation.specs.pns_rules.Shape.{shape_of}
+use Rattle.node_evaluation.specs.pns_rules.Nodes.{Node}
+use Rattle.node_evaluation.specs.exact_numbers.declared.number.Mixed.{Mixed}
+use Rattle.node_evaluation.specs.tree_rules.Ways.{Way, options_at}
+use Rattle.node_evaluation.specs.tree_rules.Tree.{leaf}
+use Rattle.node_evaluation.specs.tree_rules.Claim as claims
+use Rattle.node_evaluation.specs.tree_rules.Claim.{CostOver}
+use Rattle.node_evaluation.specs.tree_rules.Leaf.{IsRefuted, IsBounded, IsLow, Scaled}
+use Rattle.node_evaluation.specs.tree_rules.Lean.{MayUndercut}
+use Rattle.node_evaluation.specs.tree_rules.Stops.{IsPending, IsNextCount}
+use Rattle.node_evaluation.specs.search_tree.declared.shut.Shut.{Shut}
+use Rattle.node_evaluation.specs.search_tree.declared.shut.Shut.TheVariants as shuts
+use Rattle.node_evaluation.specs.search_tree.Cells.{Cell, place_of, cell_at}
+use Rattle.node_evaluation.specs.tree_rules.Costs.{IsNoMore}
+use Rattle.node_evaluation.specs.search_tree.Turns.{CanBranch, IsLeastOpen}
+use Rattle.node_evaluation.specs.search_tree.Growth.{is_open, EndsOpen}
 use Rattle.slab.specs.Slab.{get}
 use Rattle.node_evaluation.specs.declared.looks.Ready.{Ready}
 use Rattle.node_evaluation.specs.declared.looks.Worth.{Worth}

@@ -1,16 +1,16 @@
 -- What a search finds: a claim with the tree that proves it, or the tree so far with its stop.
 use Rattle.std.specs.Prelude.{ℕ, Option, Some, None}
-use Rattle.problem_rules.specs.Problem.{Problem}
-use Rattle.pns_rules.specs.Nodes.{Node}
-use Rattle.tree_rules.specs.Claim as claims
-use Rattle.tree_rules.specs.Claim.{claimed_cost}
-use Rattle.tree_rules.specs.Leaf.{IsUntried}
-use Rattle.tree_rules.specs.Accepted.{Tree}
-use Rattle.tree_rules.specs.Stops.{IsSpent, IsPast}
-use Rattle.tree_rules.specs.Proved.{IsProved, IsStopped, IsBelowLimit}
+use Rattle.pns_io.specs.problem_rules.Problem.{Problem}
+use Rattle.node_evaluation.specs.pns_rules.Nodes.{Node}
+use Rattle.node_evaluation.specs.tree_rules.Claim as claims
+use Rattle.node_evaluation.specs.tree_rules.Claim.{claimed_cost}
+use Rattle.node_evaluation.specs.tree_rules.Leaf.{IsUntried}
+use Rattle.node_evaluation.specs.tree_rules.Accepted.{Tree}
+use Rattle.node_evaluation.specs.tree_rules.Stops.{IsSpent, IsPast}
+use Rattle.node_evaluation.specs.tree_rules.Proved.{IsProved, IsStopped, IsBelowLimit}
 use Rattle.node_evaluation.specs.Evaluated.{PastPlaces}
 use Rattle.node_evaluation.specs.Children.{claim_with}
-use Rattle.tree_rules.specs.Past.{IsPastAt}
+use Rattle.node_evaluation.specs.tree_rules.Past.{IsPastAt}
 use Rattle.abb_search.specs.declared.outcome.Found.{Found}
 use Rattle.abb_search.specs.declared.outcome.Found.TheVariants.{Solved, Infeasible, Spent, Past}
 use Rattle.abb_search.specs.declared.outcome.Found.TheVariants.{Memory}

@@ -2,26 +2,26 @@
 use Rattle.std.specs.Prelude.{◌≡◌, ◌⊎◌, ℕ, ◌+◌, ◌-◌, ◌^◌, ◌<◌, ◌≤◌, true, cond, ◌||◌, List, [], ◌∷◌}
 use Rattle.std.specs.Prelude.{◌++◌, length, slice_set, Option, Some, None, is_some}
 use Rattle.std.specs.List.{slice_get}
-use Rattle.link_lists.specs.Lists.{has}
-use Rattle.problem_rules.specs.Problem.{Problem}
-use Rattle.pns_rules.specs.Nodes.{Node}
-use Rattle.pgraph.specs.View.{node_of}
-use Rattle.unit_sets.specs.declared.node.Node as starts
-use Rattle.exact_numbers.specs.declared.number.Mixed.{Mixed}
-use Rattle.exact_numbers.specs.Number.{numerator, denominator}
-use Rattle.tree_rules.specs.Ways.{Way, width}
-use Rattle.tree_rules.specs.Tree.{branch, leaf}
-use Rattle.tree_rules.specs.Claim as claims
-use Rattle.tree_rules.specs.Claim.{CostOver, claimed_cost, IsAtMost, ClaimPasses}
-use Rattle.tree_rules.specs.Leaf.{untried}
-use Rattle.search_tree.specs.Cells.{Cell, place_of, cell_at}
-use Rattle.search_tree.specs.Growth.{is_open, AreOpenAfter, as_parent, EndsOpen}
-use Rattle.tree_rules.specs.Costs.{IsNoMore, HasFallen}
-use Rattle.search_tree.specs.Kept.{IsKeptFor}
-use Rattle.node_pool.specs.Pooled.{AreSameNodes}
-use Rattle.node_pool.specs.Order.{second}
+use Rattle.node_evaluation.specs.link_lists.Lists.{has}
+use Rattle.pns_io.specs.problem_rules.Problem.{Problem}
+use Rattle.node_evaluation.specs.pns_rules.Nodes.{Node}
+use Rattle.node_evaluation.specs.pgraph.View.{node_of}
+use Rattle.node_evaluation.specs.unit_sets.declared.node.Node as starts
+use Rattle.node_evaluation.specs.exact_numbers.declared.number.Mixed.{Mixed}
+use Rattle.node_evaluation.specs.exact_numbers.Number.{numerator, denominator}
+use Rattle.node_evaluation.specs.tree_rules.Ways.{Way, width}
+use Rattle.node_evaluation.specs.tree_rules.Tree.{branch, leaf}
+use Rattle.node_evaluation.specs.tree_rules.Claim as claims
+use Rattle.node_evaluation.specs.tree_rules.Claim.{CostOver, claimed_cost, IsAtMost, ClaimPasses}
+use Rattle.node_evaluation.specs.tree_rules.Leaf.{untried}
+use Rattle.node_evaluation.specs.search_tree.Cells.{Cell, place_of, cell_at}
+use Rattle.node_evaluation.specs.search_tree.Growth.{is_open, AreOpenAfter, as_parent, EndsOpen}
+use Rattle.node_evaluation.specs.tree_rules.Costs.{IsNoMore, HasFallen}
+use Rattle.node_evaluation.specs.search_tree.Kept.{IsKeptFor}
+use Rattle.node_evaluation.specs.node_pool.Pooled.{AreSameNodes}
+use Rattle.node_evaluation.specs.node_pool.Order.{second}
 use Rattle.slab.specs.Slab.{Slab, get, Updates}
-use Rattle.search_tree.specs.declared.growth.Fresh.{Fresh}
+use Rattle.node_evaluation.specs.search_tree.declared.growth.Fresh.{Fresh}
 use Rattle.node_evaluation.specs.declared.choice.Choice.{Choice}
 use Rattle.node_evaluation.specs.declared.choice.Choice.TheVariants as choices
 use Rattle.node_evaluation.specs.declared.evaluator.Interval.{Interval}

@@ -2,12 +2,12 @@
 use Rattle.std.specs.Prelude.{◌≡◌, ◌⊎◌, ℕ, ◌+◌, ◌^◌, ◌<◌, ◌≤◌, true, length, Option, Some, None}
 use Rattle.std.specs.Prelude.{option_copied}
 use Rattle.std.specs.List.{slice_get}
-use Rattle.link_lists.specs.Lists.{has}
-use Rattle.problem_rules.specs.Problem.{Problem}
-use Rattle.exact_numbers.specs.declared.number.Mixed.{Mixed}
-use Rattle.exact_numbers.specs.Number.{numerator, denominator}
-use Rattle.tree_rules.specs.Claim.{Network, CostOver, claimed_cost, IsAtMost}
-use Rattle.tree_rules.specs.Costs.{IsNoMore}
+use Rattle.node_evaluation.specs.link_lists.Lists.{has}
+use Rattle.pns_io.specs.problem_rules.Problem.{Problem}
+use Rattle.node_evaluation.specs.exact_numbers.declared.number.Mixed.{Mixed}
+use Rattle.node_evaluation.specs.exact_numbers.Number.{numerator, denominator}
+use Rattle.node_evaluation.specs.tree_rules.Claim.{Network, CostOver, claimed_cost, IsAtMost}
+use Rattle.node_evaluation.specs.tree_rules.Costs.{IsNoMore}
 use Rattle.node_evaluation.specs.Choices.{option_count}
 use Rattle.node_evaluation.specs.Evaluated.{PastPlaces, cost_over, cost_in}
 use Rattle.node_evaluation.specs.Looks.{cost_of}

@@ -1,17 +1,17 @@
 -- What contracts see of a search, and what a turn does to it.
 use Rattle.std.specs.Prelude.{◌≡◌, ℕ, ◌<◌, ◌≤◌, Bool, true, false, List, [], ◌∷◌, length, Option}
-use Rattle.problem_rules.specs.Problem.{Problem}
-use Rattle.pns_rules.specs.Shape.{shape_of}
-use Rattle.pns_rules.specs.Ends.{IsSound}
-use Rattle.pgraph.specs.View.{node_of}
-use Rattle.unit_sets.specs.declared.node.Node.{Node}
-use Rattle.tree_rules.specs.Claim as claims
-use Rattle.tree_rules.specs.Accepted.{Tree}
-use Rattle.search_tree.specs.Cells.{Cell}
-use Rattle.search_tree.specs.Preorder.{IsPreorder, tree_of}
-use Rattle.neutral_extension.specs.Candidates.{AreMakersOf}
-use Rattle.tree_rules.specs.Costs.{HasFallen}
-use Rattle.search_tree.specs.Values.{IsPositiveCost}
+use Rattle.pns_io.specs.problem_rules.Problem.{Problem}
+use Rattle.node_evaluation.specs.pns_rules.Shape.{shape_of}
+use Rattle.node_evaluation.specs.pns_rules.Ends.{IsSound}
+use Rattle.node_evaluation.specs.pgraph.View.{node_of}
+use Rattle.node_evaluation.specs.unit_sets.declared.node.Node.{Node}
+use Rattle.node_evaluation.specs.tree_rules.Claim as claims
+use Rattle.node_evaluation.specs.tree_rules.Accepted.{Tree}
+use Rattle.node_evaluation.specs.search_tree.Cells.{Cell}
+use Rattle.node_evaluation.specs.search_tree.Preorder.{IsPreorder, tree_of}
+use Rattle.node_evaluation.specs.neutral_extension.Candidates.{AreMakersOf}
+use Rattle.node_evaluation.specs.tree_rules.Costs.{HasFallen}
+use Rattle.node_evaluation.specs.search_tree.Values.{IsPositiveCost}
 use Rattle.node_evaluation.specs.Evaluated.{PastPlaces}
 use Rattle.node_evaluation.specs.Looks.{cost_of}
 use Rattle.abb_search.specs.declared.outcome.Found.{Found}

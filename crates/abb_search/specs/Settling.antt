@@ -1,11 +1,11 @@
 -- The worth of open leaves is settled: how many leaves wait for it, and what comes of it.
 use Rattle.std.specs.Prelude.{◌≡◌, ℕ, zero, suc, ◌+◌, ◌<◌, ◌≤◌, Bool, false, ◌&&◌, not, cond}
 use Rattle.std.specs.Prelude.{length, Option, Some, None}
-use Rattle.link_lists.specs.Lists.{has}
-use Rattle.problem_rules.specs.Problem.{Problem}
-use Rattle.tree_rules.specs.Tree.{leaf}
-use Rattle.search_tree.specs.Growth.{EndsOpen}
-use Rattle.search_tree.specs.Cells.{cell_at}
+use Rattle.node_evaluation.specs.link_lists.Lists.{has}
+use Rattle.pns_io.specs.problem_rules.Problem.{Problem}
+use Rattle.node_evaluation.specs.tree_rules.Tree.{leaf}
+use Rattle.node_evaluation.specs.search_tree.Growth.{EndsOpen}
+use Rattle.node_evaluation.specs.search_tree.Cells.{cell_at}
 use Rattle.node_evaluation.specs.Evaluated.{PastPlaces}
 use Rattle.abb_search.specs.declared.growing.Growing.{Growing}
 use Rattle.abb_search.specs.declared.growing.StoppedLeaf.{StoppedLeaf}

@@ -1,14 +1,14 @@
 -- An open leaf of the pool is shut: it gets another end.
 use Rattle.std.specs.Prelude.{◌≡◌, ℕ, ◌<◌, true, false, length, slice_set, None, is_some}
-use Rattle.link_lists.specs.Lists.{has, without}
+use Rattle.node_evaluation.specs.link_lists.Lists.{has, without}
 use Rattle.slab.specs.Slab.{Updates}
-use Rattle.problem_rules.specs.Problem.{Problem}
-use Rattle.tree_rules.specs.Tree.{End, leaf}
-use Rattle.tree_rules.specs.Leaf.{Leaf, LeafPasses}
-use Rattle.tree_rules.specs.Known.{KnowsEnd}
-use Rattle.tree_rules.specs.Claim.{claimed_cost}
-use Rattle.search_tree.specs.Cells.{place_of, cell_at}
-use Rattle.search_tree.specs.Growth.{as_shut, is_open_leaf}
+use Rattle.pns_io.specs.problem_rules.Problem.{Problem}
+use Rattle.node_evaluation.specs.tree_rules.Tree.{End, leaf}
+use Rattle.node_evaluation.specs.tree_rules.Leaf.{Leaf, LeafPasses}
+use Rattle.node_evaluation.specs.tree_rules.Known.{KnowsEnd}
+use Rattle.node_evaluation.specs.tree_rules.Claim.{claimed_cost}
+use Rattle.node_evaluation.specs.search_tree.Cells.{place_of, cell_at}
+use Rattle.node_evaluation.specs.search_tree.Growth.{as_shut, is_open_leaf}
 use Rattle.node_evaluation.specs.Looks.{is_bounded_leaf}
 use Rattle.node_evaluation.specs.Children.{claim_with}
 use Rattle.abb_search.specs.declared.growing.Growing.{Growing}

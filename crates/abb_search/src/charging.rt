@@ -4,9 +4,7 @@ ghost use Rattle.abb_search.specs.Growing.{IsGrowing, IsGoing};
 ghost use Rattle.abb_search.specs.Charging.{IsCharging, KeepsGoing};
 
 use crate::growing::{Growing, node_at, reaches, shut_leaf};
-use branch_tree::End;
-use node_evaluation::{Charged, Evaluator, Workspace};
-use pgraph::Site;
+use node_evaluation::{Charged, End, Evaluator, Site, Workspace};
 
 /// A charge of the leaf of least value that is no less than the best network's cost, with the
 /// number of the leaf. If a charge is not needed, there is none: if no leaf is open, if no network

@@ -1,11 +1,11 @@
 //! What shuts the open leaves, if a network costs no more than any of them, or if they are refuted;
 //! and what is said of them if the budget is spent.
 ghost use Rattle.std.specs.Prelude.{◌≡◌, ◌<◌, ℕ, false, None, length, IfOk, Option, option_copied};
-ghost use Rattle.pns_rules.specs.Shape.{shape_of};
-ghost use Rattle.pns_rules.specs.Ends.{IsSound, IsReduced};
-ghost use Rattle.pgraph.specs.View.{node_of};
-ghost use Rattle.tree_rules.specs.Claim.{CostOver};
-ghost use Rattle.tree_rules.specs.Costs.{IsNoMore};
+ghost use Rattle.node_evaluation.specs.pns_rules.Shape.{shape_of};
+ghost use Rattle.node_evaluation.specs.pns_rules.Ends.{IsSound, IsReduced};
+ghost use Rattle.node_evaluation.specs.pgraph.View.{node_of};
+ghost use Rattle.node_evaluation.specs.tree_rules.Claim.{CostOver};
+ghost use Rattle.node_evaluation.specs.tree_rules.Costs.{IsNoMore};
 ghost use Rattle.node_evaluation.specs.Evaluated.{cost_over, cost_in, IsBoundOf, IsProof};
 ghost use Rattle.abb_search.specs.Worth.{refutation_in, refutation_of};
 ghost use Rattle.abb_search.specs.Growing.{IsGrowingFor};
@@ -14,12 +14,11 @@ ghost use Rattle.abb_search.specs.Closing.{RefutedShut, hand_of, refuted_by, shu
 ghost use Rattle.abb_search.specs.Closing.{IsBoundOrNone, IsToldAs, IsToldOf, AreTold};
 
 use crate::growing::{Growing, StoppedLeaf, node_at, reaches};
-use branch_tree::{Multipliers, Network, Scaled};
-use node_evaluation::{Bound, Evaluator, PastStop, Proof, Ready, Workspace, Worth};
-use pgraph::Site;
-use search_tree::{Shut, copy_multipliers, copy_scaled};
+use node_evaluation::{
+    Bound, Evaluator, Multipliers, Network, Node, PastStop, Proof, Ready, Scaled, Shut, Site,
+    Workspace, Worth, copy_multipliers, copy_scaled,
+};
 use std::alloc::{AllocError, Global};
-use unit_sets::Node;
 
 /// What shuts the open leaves.
 #[derive(Drop)]

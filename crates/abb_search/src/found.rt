@@ -1,16 +1,15 @@
 //! The tree that shows what is found.
 ghost use Rattle.std.specs.Prelude.{◌≡◌, ◌<◌, [], length, IfOk, IfSome};
-ghost use Rattle.tree_rules.specs.Claim.{IsSized};
-ghost use Rattle.search_tree.specs.Cells.{IsLinked, cell_at};
-ghost use Rattle.search_tree.specs.Preorder.{IsTreeOf};
-ghost use Rattle.search_tree.specs.Shut.{shut_cells};
+ghost use Rattle.node_evaluation.specs.tree_rules.Claim.{IsSized};
+ghost use Rattle.node_evaluation.specs.search_tree.Cells.{IsLinked, cell_at};
+ghost use Rattle.node_evaluation.specs.search_tree.Preorder.{IsTreeOf};
+ghost use Rattle.node_evaluation.specs.search_tree.Shut.{shut_cells};
 ghost use Rattle.abb_search.specs.Found.{found_with};
 ghost use Rattle.abb_search.specs.Answers.{past_with};
 
 use crate::growing::{Growing, StoppedLeaf};
 use crate::outcome::Found;
-use branch_tree::{Network, Tree};
-use search_tree::{Shut, nodes_in_preorder};
+use node_evaluation::{Network, Shut, Tree, nodes_in_preorder};
 use std::alloc::{AllocError, Global};
 
 /// A tree, and the place of one of its nodes.
@@ -44,7 +43,7 @@ pub(crate) fn shut_tree(
         (λ t. IsTreeOf (shut_cells proofs.now growing.now.pool.payloads) leaf t.tree t.place) }
     ensures sized { IfSome growing.now.best IsSized }
 {
-    search_tree::preorder_is_tree();
+    node_evaluation::preorder_is_tree();
     is_sized(&growing.best);
     let preorder = nodes_in_preorder(alloc, &growing.pool, proofs, leaf)?;
     Ok(Placed {

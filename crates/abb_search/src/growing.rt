@@ -2,20 +2,20 @@
 ghost use Rattle.std.specs.Prelude.{◌≡◌, ◌↔◌, ◌<◌, ◌≤◌, ◌+◌, ◌-◌, ◌^◌, ◌*ℤ◌, ◌≤ℤ◌, pos, true};
 ghost use Rattle.std.specs.Prelude.{false, Some, None, IsTrue, IfOk, OnOk, OnErr, MatchOption};
 ghost use Rattle.std.specs.Prelude.{drop, length, option_copied, slice_set};
-ghost use Rattle.exact_numbers.specs.Number.{numerator, denominator};
+ghost use Rattle.node_evaluation.specs.exact_numbers.Number.{numerator, denominator};
 ghost use Rattle.slab.specs.Slab.{get, Updates};
-ghost use Rattle.link_lists.specs.Lists.{first, has, without};
-ghost use Rattle.pns_rules.specs.Shape.{shape_of};
-ghost use Rattle.pns_rules.specs.Ends.{IsSound, IsReduced};
-ghost use Rattle.tree_rules.specs.Ways.{options_at};
-ghost use Rattle.tree_rules.specs.Tree.{branch};
-ghost use Rattle.branch_tree.specs.View.{end_of};
+ghost use Rattle.node_evaluation.specs.link_lists.Lists.{first, has, without};
+ghost use Rattle.node_evaluation.specs.pns_rules.Shape.{shape_of};
+ghost use Rattle.node_evaluation.specs.pns_rules.Ends.{IsSound, IsReduced};
+ghost use Rattle.node_evaluation.specs.tree_rules.Ways.{options_at};
+ghost use Rattle.node_evaluation.specs.tree_rules.Tree.{branch};
+ghost use Rattle.node_evaluation.specs.branch_tree.View.{end_of};
 ghost use Rattle.node_evaluation.specs.Choices.{IsChoice, way_of};
-ghost use Rattle.pgraph.specs.View.{node_of};
-ghost use Rattle.search_tree.specs.Cells.{cell_at};
-ghost use Rattle.search_tree.specs.Growth.{as_shut};
-ghost use Rattle.neutral_extension.specs.Candidates.{AreMakersOf};
-ghost use Rattle.tree_rules.specs.Costs.{IsNoMore};
+ghost use Rattle.node_evaluation.specs.pgraph.View.{node_of};
+ghost use Rattle.node_evaluation.specs.search_tree.Cells.{cell_at};
+ghost use Rattle.node_evaluation.specs.search_tree.Growth.{as_shut};
+ghost use Rattle.node_evaluation.specs.neutral_extension.Candidates.{AreMakersOf};
+ghost use Rattle.node_evaluation.specs.tree_rules.Costs.{IsNoMore};
 ghost use Rattle.node_evaluation.specs.Children.{AreSolvedBy};
 ghost use Rattle.node_evaluation.specs.Evaluated.{cost_over, cost_in};
 ghost use Rattle.abb_search.specs.Worth.{interval_in, interval_of};
@@ -25,18 +25,12 @@ ghost use Rattle.abb_search.specs.Growing.{IsReachedAt, IsLeastLeaf, IsHeldUp, r
 ghost use Rattle.abb_search.specs.Growing.{interval_stop, stop_at, leaf_of, choice_of};
 
 use crate::hand::place_all;
-use node_evaluation::Choice;
-use branch_tree::{End, Network};
-use exact_numbers::Mixed;
 use node_evaluation::{
-    Evaluator, Interval, PastStop, Ready, StoppedAt, Workspace, Worth, cheaper, look_at_children,
+    Cell, Choice, End, Evaluator, Interval, Mixed, Network, Node, PastStop, Pool, Ready, Site,
+    StoppedAt, Workspace, Worth, branch, cheaper, look_at_children,
 };
-use node_pool::Pool;
-use pgraph::Site;
-use search_tree::{Cell, branch};
 use slab::Slab;
 use std::alloc::{AllocError, Global};
-use unit_sets::Node;
 
 /// An open leaf at which a number overflows.
 #[derive(Drop)]

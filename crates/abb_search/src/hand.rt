@@ -5,8 +5,7 @@ ghost use Rattle.slab.specs.Slab.{get, slab_len, HasRoomFor, Updates};
 ghost use Rattle.abb_search.specs.Worth.{with_worth};
 ghost use Rattle.abb_search.specs.Hand.{IsPlaced, ArePlaced};
 
-use node_evaluation::{Ready, Worth};
-use search_tree::Fresh;
+use node_evaluation::{Fresh, Ready, Worth};
 use slab::Slab;
 
 /// Takes the last item of a list that has one.

@@ -36,7 +36,12 @@ pub use closing::{Closing, Shutting, close_all, shut_at};
 pub use growing::{
     Growing, StoppedLeaf, branch_leaf, choice_at, node_at, reaches, shut_leaf, take_stop,
 };
+pub use node_evaluation::{
+    Cell, Evaluator, Pool, Shut, Workspace, copy_of_network, costs_no_more, nodes_in_preorder,
+    preorder_is_tree,
+};
 pub use outcome::{Found, Turn};
+pub use pns_io::{Effort, NoWatch, Outputs, Shelf, Sink, Watch};
 pub use root::look_at_root;
 pub use rounds::{Ending, Goal, Next, next_leaf};
 pub use runs::{run, search_with};

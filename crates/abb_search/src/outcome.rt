@@ -1,6 +1,5 @@
+use node_evaluation::{Columns, Network, Place, Tree};
 //! What a search finds, and what a turn of it answers.
-use branch_tree::{Columns, Network, Tree};
-use flow_rules::Place;
 
 /// What a search finds.
 #[derive(Drop)]

@@ -1,24 +1,21 @@
 //! The root of a search.
 ghost use Rattle.std.specs.Prelude.{◌≡◌, ◌≤◌, [], ◌∷◌, cond, None, IfOk, OnOk, length};
-ghost use Rattle.pns_rules.specs.Shape.{shape_of};
-ghost use Rattle.pns_rules.specs.Ends.{IsSound};
-ghost use Rattle.pgraph.specs.View.{node_of};
-ghost use Rattle.search_tree.specs.Growth.{is_open};
-ghost use Rattle.neutral_extension.specs.Candidates.{AreMakersOf};
+ghost use Rattle.node_evaluation.specs.pns_rules.Shape.{shape_of};
+ghost use Rattle.node_evaluation.specs.pns_rules.Ends.{IsSound};
+ghost use Rattle.node_evaluation.specs.pgraph.View.{node_of};
+ghost use Rattle.node_evaluation.specs.search_tree.Growth.{is_open};
+ghost use Rattle.node_evaluation.specs.neutral_extension.Candidates.{AreMakersOf};
 ghost use Rattle.node_evaluation.specs.Children.{AreSolvedBy};
 ghost use Rattle.abb_search.specs.Growing.{root_stop, IsOpenRoot, IsLookedRoot};
 
 use crate::growing::{Growing, StoppedLeaf};
 use crate::hand::place;
-use branch_tree::{Network, Steps};
-use exact_numbers::Mixed;
-use node_evaluation::{Evaluator, PastStop, Workspace, cheaper, look, open_cell};
-use node_pool::Pool;
-use pgraph::Site;
-use search_tree::{Cell, Fresh};
+use node_evaluation::{
+    Cell, Evaluator, Fresh, Mixed, Network, Node, PastStop, Pool, Site, Steps, UnitSet, Workspace,
+    cheaper, look, open_cell,
+};
 use slab::Slab;
 use std::alloc::{AllocError, Global};
-use unit_sets::{Node, UnitSet};
 
 /// Adds the root. It is an open leaf if its cell is one.
 fn add_root(pool: &mut Pool<Cell>, cell: Cell, value: Mixed) -> Result<(), AllocError>

@@ -2,9 +2,9 @@
 //! how the search ends.
 ghost use Rattle.std.specs.Prelude.{◌≡◌, ◌↔◌, ◌<◌, ◌+◌, IsTrue, IfOk, Option, option_copied};
 ghost use Rattle.std.specs.Prelude.{length};
-ghost use Rattle.link_lists.specs.Lists.{first};
-ghost use Rattle.pns_rules.specs.Shape.{shape_of};
-ghost use Rattle.tree_rules.specs.Claim.{CostOver};
+ghost use Rattle.node_evaluation.specs.link_lists.Lists.{first};
+ghost use Rattle.node_evaluation.specs.pns_rules.Shape.{shape_of};
+ghost use Rattle.node_evaluation.specs.tree_rules.Claim.{CostOver};
 ghost use Rattle.node_evaluation.specs.Choices.{option_count};
 ghost use Rattle.node_evaluation.specs.Looks.{cost_of};
 ghost use Rattle.abb_search.specs.Growing.{IsGrowingFor, IsSame, IsSettledAt, LeafUndercuts};
@@ -17,11 +17,7 @@ use crate::growing::{
     Growing, StoppedLeaf, choice_at, is_over, is_within, leads, reached_at, reaches,
 };
 use crate::settling::{first_put_off, is_settled, next_waiting, settle_from, settle_leaf};
-use branch_tree::Network;
-use exact_numbers::Mixed;
-use node_evaluation::{Evaluator, Workspace};
-use pgraph::Site;
-use search_tree::Shut;
+use node_evaluation::{Evaluator, Mixed, Network, Shut, Site, Workspace};
 use std::alloc::{AllocError, Global};
 
 /// What is to be undercut.

@@ -1,10 +1,10 @@
 //! The loop over the turns of a search.
 ghost use Rattle.std.specs.Prelude.{◌≡◌, ◌≤◌, true};
-ghost use Rattle.pns_rules.specs.Shape.{shape_of};
-ghost use Rattle.pns_rules.specs.Ends.{IsSound};
-ghost use Rattle.pgraph.specs.View.{node_of};
-ghost use Rattle.neutral_extension.specs.Candidates.{AreMakersOf};
-ghost use Rattle.tree_rules.specs.Claim.{ClaimPasses};
+ghost use Rattle.node_evaluation.specs.pns_rules.Shape.{shape_of};
+ghost use Rattle.node_evaluation.specs.pns_rules.Ends.{IsSound};
+ghost use Rattle.node_evaluation.specs.pgraph.View.{node_of};
+ghost use Rattle.node_evaluation.specs.neutral_extension.Candidates.{AreMakersOf};
+ghost use Rattle.node_evaluation.specs.tree_rules.Claim.{ClaimPasses};
 ghost use Rattle.node_evaluation.specs.Children.{claim_with};
 ghost use Rattle.abb_search.specs.Growing.{IsGoing};
 ghost use Rattle.abb_search.specs.Answers.{IsAgainst};
@@ -15,11 +15,8 @@ use crate::outcome::Found;
 use crate::root::look_at_root;
 use crate::step::step;
 use crate::watching::report_progress;
-use branch_tree::Network;
-use node_evaluation::{Evaluator, Workspace};
-use pgraph::Site;
+use node_evaluation::{Evaluator, Network, Node, Site, Workspace};
 use pns_io::{Effort, Watch};
-use unit_sets::Node;
 
 /// Takes turns from a root that was looked at, until the search ends or there is no memory. Before
 /// each turn it reports how far the search is.

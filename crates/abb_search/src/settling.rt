@@ -1,11 +1,11 @@
 //! The worth of open leaves is settled: when a leaf is to be branched, and before a search ends
 //! because its budget is spent.
 ghost use Rattle.std.specs.Prelude.{◌≡◌, ◌<◌, true, IfOk, IfSome, IfNone, Option, length};
-ghost use Rattle.pns_rules.specs.Shape.{shape_of};
-ghost use Rattle.pgraph.specs.View.{node_of};
-ghost use Rattle.search_tree.specs.Cells.{cell_at};
+ghost use Rattle.node_evaluation.specs.pns_rules.Shape.{shape_of};
+ghost use Rattle.node_evaluation.specs.pgraph.View.{node_of};
+ghost use Rattle.node_evaluation.specs.search_tree.Cells.{cell_at};
 ghost use Rattle.node_evaluation.specs.Looks.{IsSettling};
-ghost use Rattle.tree_rules.specs.Claim.{CostOver};
+ghost use Rattle.node_evaluation.specs.tree_rules.Claim.{CostOver};
 ghost use Rattle.abb_search.specs.Worth.{is_settled, is_settled_worth, is_put_off};
 ghost use Rattle.abb_search.specs.Worth.{is_put_off_worth};
 ghost use Rattle.abb_search.specs.Closing.{hand_of};
@@ -15,11 +15,10 @@ ghost use Rattle.abb_search.specs.Settling.{is_waiting, AreSettled, SettleHolds,
 use crate::closing::hand_at;
 use crate::growing::{Growing, StoppedLeaf, key_at, node_at};
 use crate::hand::put_worth;
-use node_evaluation::{Evaluator, Settling, Workspace, Worth, settle};
-use pgraph::Site;
-use search_tree::copy_multipliers;
+use node_evaluation::{
+    Evaluator, Node, Settling, Site, Workspace, Worth, copy_multipliers, settle,
+};
 use std::alloc::{AllocError, Global};
-use unit_sets::Node;
 
 /// Whether the worth is settled, and the node has relaxed flows.
 fn is_settled_worth(worth: &Worth) -> bool

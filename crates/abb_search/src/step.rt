@@ -1,10 +1,10 @@
 //! A turn of a search.
 ghost use Rattle.std.specs.Prelude.{◌≡◌, ◌≤◌, IfOk, OnOk, OnErr};
-ghost use Rattle.pns_rules.specs.Shape.{shape_of};
-ghost use Rattle.pns_rules.specs.Ends.{IsSound};
-ghost use Rattle.tree_rules.specs.Claim.{claimed_cost};
-ghost use Rattle.pgraph.specs.View.{node_of};
-ghost use Rattle.neutral_extension.specs.Candidates.{AreMakersOf};
+ghost use Rattle.node_evaluation.specs.pns_rules.Shape.{shape_of};
+ghost use Rattle.node_evaluation.specs.pns_rules.Ends.{IsSound};
+ghost use Rattle.node_evaluation.specs.tree_rules.Claim.{claimed_cost};
+ghost use Rattle.node_evaluation.specs.pgraph.View.{node_of};
+ghost use Rattle.node_evaluation.specs.neutral_extension.Candidates.{AreMakersOf};
 ghost use Rattle.node_evaluation.specs.Children.{claim_with};
 ghost use Rattle.abb_search.specs.Growing.{IsTreeKept, IsGrowing, IsGoing, IsSame};
 ghost use Rattle.abb_search.specs.Rounds.{IsNextLeaf, IsStopLeaf, FitsBudget, EndsWith};
@@ -17,8 +17,7 @@ use crate::growing::{Growing, branch_leaf, choice_at, node_at, stopped_leaf, tak
 use crate::outcome::Found;
 use crate::root::look_at_root;
 use crate::rounds::{Ending, Goal, Next, next_leaf};
-use node_evaluation::{Evaluator, Workspace, copy_of_network};
-use pgraph::Site;
+use node_evaluation::{Evaluator, Site, Workspace, copy_of_network};
 use std::alloc::{AllocError, Global};
 
 /// Branches the leaf that comes next. After `Err`, which comes when memory is refused, the tree is

@@ -1,13 +1,13 @@
 //! A search that is taken turn by turn.
 ghost use Rattle.std.specs.Prelude.{◌≡◌, ◌≤◌, true, false, is_some, IfOk, option_copied, length};
-ghost use Rattle.pns_rules.specs.Shape.{shape_of};
-ghost use Rattle.pns_rules.specs.Ends.{IsSound};
-ghost use Rattle.pgraph.specs.View.{node_of};
-ghost use Rattle.neutral_extension.specs.Candidates.{AreMakersOf};
+ghost use Rattle.node_evaluation.specs.pns_rules.Shape.{shape_of};
+ghost use Rattle.node_evaluation.specs.pns_rules.Ends.{IsSound};
+ghost use Rattle.node_evaluation.specs.pgraph.View.{node_of};
+ghost use Rattle.node_evaluation.specs.neutral_extension.Candidates.{AreMakersOf};
 ghost use Rattle.node_evaluation.specs.Looks.{has_bounded};
-ghost use Rattle.tree_rules.specs.Claim.{ClaimPasses};
+ghost use Rattle.node_evaluation.specs.tree_rules.Claim.{ClaimPasses};
 ghost use Rattle.node_evaluation.specs.Children.{claim_with};
-ghost use Rattle.tree_rules.specs.Proved.{IsStopped};
+ghost use Rattle.node_evaluation.specs.tree_rules.Proved.{IsStopped};
 ghost use Rattle.abb_search.specs.Searched.{opened, TurnHolds, AreNodesOf};
 
 use crate::found::{is_sized, tree_with};
@@ -15,12 +15,9 @@ use crate::growing::Growing;
 use crate::outcome::Turn;
 use crate::root::open_root;
 use crate::step::take_turn;
-use branch_tree::{Network, Tree};
-use node_evaluation::{Evaluator, Workspace};
-use pgraph::Site;
+use node_evaluation::{Evaluator, Network, Node, Site, Tree, Workspace};
 use std::alloc::{AllocError, Global};
 use std::marker::Model;
-use unit_sets::Node;
 
 /// A search of the structures of the family of a node for one whose flows are cheapest. It always
 /// takes an open leaf of least value.

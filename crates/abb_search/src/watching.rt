@@ -1,8 +1,7 @@
 //! Progress reports of a search.
 
 use crate::growing::Growing;
-use branch_tree::Network;
-use pgraph::Site;
+use node_evaluation::{Network, Site};
 use pns_io::{Progress, Watch};
 
 /// How many leaves are open.

@@ -1,11 +1,8 @@
 //! Sets of units that are broken: each structure has one of them, but the program has less.
 use crate::program::{Owed, is_in};
 use crate::tableau::{Tableau, Variable};
-use charges::covers_node;
-use pgraph::Cover;
-use pgraph::Graph;
+use charges::{Cover, Graph, Node, UnitSet, covers_node};
 use std::alloc::{AllocError, Global};
-use unit_sets::{Node, UnitSet};
 
 /// How much of each unit is built in the program.
 #[derive(Drop)]

@@ -2,10 +2,8 @@
 use crate::breach::{makers_of, users_of};
 use crate::propose::ChargeGuess;
 use crate::tableau::{Outcome, Tableau, Variable, magnitude};
-use structure_list::maximal;
-use pgraph::Graph;
+use charges::{Graph, Node, UnitSet, maximal};
 use std::alloc::{AllocError, Global};
-use unit_sets::{Node, UnitSet};
 
 /// A structure, its units that run, and what its flows cost in money.
 #[derive(Clone, Copy)]

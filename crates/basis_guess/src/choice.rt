@@ -4,7 +4,7 @@ use crate::line::Line;
 use crate::ranges::Ranges;
 use crate::rounding::product;
 use crate::row::{Distance, Row};
-use unit_sets::UnitSet;
+use charges::UnitSet;
 
 /// The row whose basic variable is furthest out of its range, and how far that is.
 pub(crate) fn leaving(rows: &[Row], ranges: &Ranges, noise: i128) -> Option<(usize, Distance)> {

@@ -2,8 +2,8 @@
 use crate::line::Line;
 use crate::rounding::{WIDEST, excess, lowest, narrowed, product, shortened};
 use crate::row::{Pivot, Row};
+use charges::UnitSet;
 use std::alloc::{AllocError, Global};
-use unit_sets::UnitSet;
 
 /// `den` times the cost is 2^shift times the sum of the entries times the variables outside the
 /// basis. Costs are large compared with sizes. So entries and `den` are shortened separately, and

@@ -4,9 +4,8 @@
 //! difference of two products are below 2^62 in absolute value, since both products and the
 //! difference then have room.
 use crate::fractions::Value;
-use exact_numbers::gcd;
+use charges::{UnitSet, gcd};
 use std::alloc::{AllocError, Global};
-use unit_sets::UnitSet;
 
 /// The coefficients of the unknowns, most of them 0, and the right side. A basis has at most as
 /// many unknowns as there are units, so a set of unknowns is one of numbers below 128.

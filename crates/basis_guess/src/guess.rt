@@ -6,8 +6,8 @@ use crate::numbers::Numbers;
 use crate::ranges::{Ranges, Variable};
 use crate::rounding::{narrowed, shortened};
 use crate::row::{Distance, Pivot, Row};
+use charges::{Node, UnitSet};
 use std::alloc::{AllocError, Global};
-use unit_sets::{Node, UnitSet};
 
 /// A variable outside the basis, and the end at which it is.
 #[derive(Clone, Copy, Debug)]

@@ -3,7 +3,7 @@ use crate::breach::Place;
 use crate::program::{float_of, is_in, share_of};
 use crate::tableau::{Ends, Tableau, Variable, magnitude};
 use crate::{Numbers, Standing};
-use pgraph::Graph;
+use charges::Graph;
 use std::alloc::{AllocError, Global};
 use std::num::nearest_i64_to_f64;
 

@@ -67,6 +67,7 @@ mod solver;
 mod system;
 mod tableau;
 
+pub use charges::{Charge, Facts, Steps, charge_of, covers_node, is_cover};
 pub use guess::{Column, Guess, Outcome};
 pub use numbers::{Ends, Numbers, Rate, Standing};
 pub use propose::{ChargeGuess, Proposal};

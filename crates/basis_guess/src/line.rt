@@ -1,7 +1,7 @@
 //! The numbers of a row, most of which are 0.
 use crate::rounding::{WIDEST, excess, narrowed, product, rounded};
+use charges::UnitSet;
 use std::alloc::{AllocError, Global};
-use unit_sets::UnitSet;
 
 /// A number for each column, and the set of the columns whose number is not 0. A tableau has as
 /// many columns as units, so a set of columns is one of numbers below 128.

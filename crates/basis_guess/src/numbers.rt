@@ -1,9 +1,8 @@
 //! The scaled numbers of a problem, and what a node takes of them.
 use crate::ranges::{END_BITS, FINE_BITS};
 use crate::rounding::excess;
-use pns_problem::{Kind, Material, OperatingUnit, Problem, Term};
+use charges::{Kind, Material, Node, OperatingUnit, Problem, Term, UnitSet};
 use std::alloc::{AllocError, Global};
-use unit_sets::{Node, UnitSet};
 
 /// A material, by its number, and the scaled rate at which a unit of size 1 makes it, negative if
 /// it uses it.

@@ -1,10 +1,9 @@
 //! The program of a node.
 use crate::tableau::{Column, Ends, Tableau, Variable};
 use crate::{Numbers, Standing};
-use pns_problem::Problem;
+use charges::{Node, Problem, UnitSet};
 use std::alloc::{AllocError, Global};
 use std::num::nearest_i64_to_f64;
-use unit_sets::{Node, UnitSet};
 
 /// The measures of a problem's numbers: sizes and rates are in millionths, costs of a size in
 /// 10^-12, balances in 10^-12.

@@ -4,11 +4,9 @@ use crate::knees::{Knee, add_knees};
 use crate::program::{Owed, float_of, is_in, put_columns, put_rows, share_of};
 use crate::tableau::{Ends, Outcome, Tableau, Variable, magnitude};
 use crate::{Numbers, Standing};
-use pgraph::Cover;
-use pgraph::Site;
+use charges::{Cover, Node, Site, UnitSet};
 use std::alloc::{AllocError, Global};
 use std::num::saturating_f64_to_i64;
-use unit_sets::{Node, UnitSet};
 
 /// Multipliers over a scale, one for each row of the node, and covers.
 #[derive(Drop)]

@@ -1,8 +1,8 @@
 //! The ends of sizes and balances, shortened or lengthened for a guess.
 use crate::numbers::{Ends, Numbers, Standing};
 use crate::rounding::{narrowed, shortened};
+use charges::Node;
 use std::alloc::{AllocError, Global};
-use unit_sets::Node;
 
 /// A variable of a tableau: the size of a unit, or the balance of a material.
 #[derive(Clone, Copy, Debug, PartialEq, Eq)]

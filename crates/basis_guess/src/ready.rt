@@ -1,10 +1,9 @@
 //! How large a unit is and how much of a material is used at most, by the solved program of a node.
 use crate::propose::{ChargeGuess, Proposal, Solved, enough_of, money_of, number_of};
 use crate::tableau::{Ends, Outcome, Tableau, Variable, magnitude};
-use pgraph::Site;
+use charges::{Node, Site};
 use std::alloc::{AllocError, Global};
 use std::num::{nearest_i64_to_f64, saturating_f64_to_i64};
-use unit_sets::Node;
 
 /// What multipliers and sets show of a unit, if a cost is claimed.
 #[derive(Drop)]

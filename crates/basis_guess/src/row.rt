@@ -2,8 +2,8 @@
 use crate::line::Line;
 use crate::ranges::{Ranges, Variable};
 use crate::rounding::{WIDEST, excess, lowest, narrowed, product};
+use charges::UnitSet;
 use std::alloc::{AllocError, Global};
-use unit_sets::UnitSet;
 
 /// `den` times the basic variable is the sum of the entries times the variables outside the basis.
 #[derive(Drop)]

@@ -3,8 +3,8 @@ use crate::fractions::{Value, ZERO, common_denominator};
 use crate::numbering::Numbering;
 use crate::system::System;
 use crate::{Column, Ends, Numbers, Standing, Variable};
+use charges::Node;
 use std::alloc::{AllocError, Global};
-use unit_sets::Node;
 
 /// Room for the exact solution of one basis after the other.
 #[derive(Drop)]

@@ -2,3 +2,6 @@ pub mod HeadView
 pub mod Scaled
 pub mod Sized
 pub mod View
+pub use Rattle.pgraph.specs.unit_sets as unit_sets
+pub use Rattle.pgraph.specs.pns_problem as pns_problem
+pub use Rattle.pgraph.specs as pgraph

@@ -1,5 +1,5 @@
 -- What the type of networks keeps: that they are sized, and all numbers are in range.
-use Rattle.integer_laws.specs.Range.{InRange, AllInRange}
+use Rattle.tree_rules.specs.integer_laws.Range.{InRange, AllInRange}
 use Rattle.tree_rules.specs.Claim.{Network, IsSized}
 
 pub record IsKept (w : Network) : Type 0 where

@@ -1,8 +1,8 @@
 //! Columns of a tableau.
 ghost use Rattle.std.specs.Prelude.{◌≡◌};
 
-use flow_rules::Column;
 use std::marker::Model;
+use tree_rules::Column;
 
 /// Columns of a tableau in some order.
 #[derive(Drop)]
@@ -12,7 +12,7 @@ pub struct Columns {
 
 impl Model for Columns {
     ghost use Rattle.std.specs.Prelude.{List};
-    ghost use Rattle.flow_rules.specs.declared.place.Column.{Column};
+    ghost use Rattle.tree_rules.specs.flow_rules.declared.place.Column.{Column};
 
     ghost Value = { List Column };
 

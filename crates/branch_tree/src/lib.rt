@@ -35,6 +35,10 @@ pub use line::HeadLine;
 pub use multipliers::Multipliers;
 pub use network::Network;
 pub use node::TreeNode;
+pub use pgraph::{
+    Cover, Covers, Graph, MatSet, Node, OperatingUnit, Parts, Problem, Site, Step, UnitSet,
+    generate,
+};
 pub use scaled::Scaled;
 pub use steps::Steps;
 pub use tail::Tail;

@@ -1,7 +1,6 @@
 //! One line of a head.
 use crate::Scaled;
-use pgraph::Covers;
-use unit_sets::Step;
+use pgraph::{Covers, Step};
 
 /// A line at the head of a branch tree.
 #[derive(Drop)]

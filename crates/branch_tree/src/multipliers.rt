@@ -1,6 +1,6 @@
 //! The multipliers of a bound or of a refutation.
 ghost use Rattle.std.specs.Prelude.{◌≡◌};
-ghost use Rattle.integer_laws.specs.Range.{AllInRange};
+ghost use Rattle.tree_rules.specs.integer_laws.Range.{AllInRange};
 
 use std::marker::Model;
 
@@ -12,7 +12,7 @@ pub struct Multipliers {
 
 impl Model for Multipliers {
     ghost use Rattle.std.specs.Prelude.{ℤ, List};
-    ghost use Rattle.integer_laws.specs.Range.{AllInRange};
+    ghost use Rattle.tree_rules.specs.integer_laws.Range.{AllInRange};
 
     ghost Value = { List ℤ };
 

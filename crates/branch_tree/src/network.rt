@@ -1,11 +1,11 @@
 //! A network with its sizes and its cost.
 ghost use Rattle.std.specs.Prelude.{◌≡◌, ◌≤ℤ◌, pos, length};
-ghost use Rattle.integer_laws.specs.Range.{InRange, AllInRange};
+ghost use Rattle.tree_rules.specs.integer_laws.Range.{InRange, AllInRange};
 ghost use Rattle.tree_rules.specs.Claim.{IsSized};
 ghost use Rattle.branch_tree.specs.Sized.{IsKept};
 
+use pgraph::UnitSet;
 use std::marker::Model;
-use unit_sets::UnitSet;
 
 /// Units with a size for each in rising order of units, and the cost. Sizes are in millionths over
 /// d. The cost over d and the payout period is in 10^-18 of the money unit. d is at least 1, and

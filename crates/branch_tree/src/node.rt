@@ -1,8 +1,8 @@
 //! The nodes of a tree.
 use crate::end::End;
 use crate::steps::Steps;
+use pgraph::UnitSet;
 use std::marker::Model;
-use unit_sets::UnitSet;
 
 /// A node: the units that are taken in as one option of the parent's branch, the steps that follow
 /// from them, and the end.

@@ -1,6 +1,6 @@
 //! The multipliers of a bound, with what they are over.
 ghost use Rattle.std.specs.Prelude.{◌≡◌, ◌<◌, length, IfOk};
-ghost use Rattle.integer_laws.specs.Range.{InRange, AllInRange};
+ghost use Rattle.tree_rules.specs.integer_laws.Range.{InRange, AllInRange};
 ghost use Rattle.branch_tree.specs.Scaled.{scaled_of};
 
 use std::alloc::{AllocError, Global};
@@ -16,7 +16,7 @@ pub struct Scaled {
 
 impl Model for Scaled {
     ghost use Rattle.std.specs.Prelude.{◌<◌, length};
-    ghost use Rattle.integer_laws.specs.Range.{AllInRange};
+    ghost use Rattle.tree_rules.specs.integer_laws.Range.{AllInRange};
     ghost use Rattle.tree_rules.specs.Leaf as rules;
     ghost use Rattle.branch_tree.specs.Scaled.{scaled_of};
 

@@ -2,8 +2,8 @@
 ghost use Rattle.std.specs.Prelude.{◌≡◌, map};
 ghost use Rattle.pgraph.specs.View.{step_of};
 
+use pgraph::Step;
 use std::marker::Model;
-use unit_sets::Step;
 
 /// The steps that are taken at a node, in order. Contracts see them as the steps of the rules.
 #[derive(Drop)]
@@ -13,7 +13,7 @@ pub struct Steps {
 
 impl Model for Steps {
     ghost use Rattle.std.specs.Prelude.{List, map};
-    ghost use Rattle.pns_rules.specs.Nodes as rules;
+    ghost use Rattle.tree_rules.specs.pns_rules.Nodes as rules;
     ghost use Rattle.pgraph.specs.View.{step_of};
 
     ghost Value = { List rules.Step };

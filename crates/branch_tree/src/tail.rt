@@ -1,6 +1,6 @@
 //! At which node a search stopped, and why.
 use crate::columns::Columns;
-use flow_rules::Place;
+use tree_rules::Place;
 
 /// At which node a search stopped, and why. Nodes are counted from 0 in preorder.
 #[derive(Drop)]

@@ -1,13 +1,13 @@
 -- The laws over what calls print, over calls.
 use Rattle.std.proofs.Common.{◌≡◌, ℕ, List, Option, Some, ap, ◌∙◌}
 use Rattle.std.proofs.lemmas.Option.{IfSome_then}
-use Rattle.problem_rules.specs.Problem.{Problem}
-use Rattle.edit_rules.specs.Edit.{Edit}
-use Rattle.tree_rules.specs.Claim.{CostOver}
-use Rattle.studio_rules.specs.Command.{Editing, Expanding, Planning, Ranging, Solving}
-use Rattle.studio_rules.specs.declared.status.Status.TheVariants.{Done}
+use Rattle.studio.specs.problem_rules.Problem.{Problem}
+use Rattle.studio.specs.edit_rules.Edit.{Edit}
+use Rattle.studio.specs.tree_rules.Claim.{CostOver}
+use Rattle.studio.specs.studio_rules.Command.{Editing, Expanding, Planning, Ranging, Solving}
+use Rattle.studio.specs.studio_rules.declared.status.Status.TheVariants.{Done}
 use Rattle.studio.specs.Calls.{CheckAcceptsSolved}
-use Rattle.studio.proofs.Calls.{answered}
+use Rattle.studio.proofs.Cited.{answered}
 use Rattle.call_laws.specs.PeriodCalls.{CheckCertifiesPeriods}
 use Rattle.call_laws.specs.Periods.{PeriodsAreCertified}
 use Rattle.call_laws.specs.RangeCalls.{CallsCost, StableAgrees}

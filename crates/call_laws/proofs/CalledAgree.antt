@@ -1,16 +1,16 @@
 -- Calls of `solve`, `list` and `flows` agree.
 use Rattle.std.proofs.Common.{◌≡◌, ℕ, List, Some, sym, ◌∙◌, subst}
-use Rattle.text_rules.specs.Outside.{Told}
-use Rattle.problem_rules.specs.Problem.{Problem}
-use Rattle.studio_rules.specs.declared.status.Status.{Status}
-use Rattle.studio_rules.specs.declared.status.Status.TheVariants.{Done}
-use Rattle.studio_rules.specs.Reading.{AreHeld, OnFile}
-use Rattle.studio_rules.specs.Command.{Flows, Listing, Solving}
-use Rattle.studio_rules.specs.Flows.{FlowsWork}
-use Rattle.studio_rules.specs.Listing.{ListingWork}
+use Rattle.studio.specs.text_rules.Outside.{Told}
+use Rattle.studio.specs.problem_rules.Problem.{Problem}
+use Rattle.studio.specs.studio_rules.declared.status.Status.{Status}
+use Rattle.studio.specs.studio_rules.declared.status.Status.TheVariants.{Done}
+use Rattle.studio.specs.studio_rules.Reading.{AreHeld, OnFile}
+use Rattle.studio.specs.studio_rules.Command.{Flows, Listing, Solving}
+use Rattle.studio.specs.studio_rules.Flows.{FlowsWork}
+use Rattle.studio.specs.studio_rules.Listing.{ListingWork}
 use Rattle.call_laws.specs.OptimumLaws.{ListedCostEnough}
 use Rattle.call_laws.specs.OptimumCalls.{CallsAgree}
-use Rattle.studio.proofs.Calls.{answered}
+use Rattle.studio.proofs.Cited.{answered}
 
 -- the same answer over another shelf that holds the file
 moved : (work : Problem → Status → List (List ℕ) → Type 0) (held later : List ℕ → Told)

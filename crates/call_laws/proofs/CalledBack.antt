@@ -1,24 +1,24 @@
 -- A call of `edit` by the script of `undo`.
 use Rattle.std.proofs.Common.{◌≡◌, ◌⊎◌, ◌++◌, ℕ, List, Option, Some, codes, sym, ap, ◌∙◌}
 use Rattle.std.proofs.Common.{subst, refl, inl, inr, append-nil}
-use Rattle.text_rules.specs.Outside.{Told}
-use Rattle.problem_rules.specs.Problem.{Problem}
-use Rattle.edit_rules.specs.Edit.{Edit}
-use Rattle.studio_rules.specs.Lines.{line, text_of}
-use Rattle.studio_rules.specs.Ending.{Finishes, Writes}
-use Rattle.command_files.proofs.Ending.{writes_as}
-use Rattle.studio_rules.specs.declared.status.Status.{Status}
-use Rattle.studio_rules.specs.declared.status.Status.TheVariants.{Done, ReadFault, TooLong}
-use Rattle.studio_rules.specs.declared.status.Status.TheVariants.{WriteFault, Memory}
-use Rattle.studio_rules.specs.Reading.{AreHeld, OnFile}
-use Rattle.studio_rules.specs.Command.{Command, Editing, Undoing}
-use Rattle.studio_rules.specs.Script.{OnScript}
-use Rattle.studio_rules.specs.Edits.{UndoWork}
-use Rattle.studio_rules.specs.Answers.{AnswersTo, WordsSay}
+use Rattle.studio.specs.text_rules.Outside.{Told}
+use Rattle.studio.specs.problem_rules.Problem.{Problem}
+use Rattle.studio.specs.edit_rules.Edit.{Edit}
+use Rattle.studio.specs.studio_rules.Lines.{line, text_of}
+use Rattle.studio.specs.studio_rules.Ending.{Finishes, Writes}
+use Rattle.studio.proofs.command_files.Cited.{writes_as}
+use Rattle.studio.specs.studio_rules.declared.status.Status.{Status}
+use Rattle.studio.specs.studio_rules.declared.status.Status.TheVariants.{Done, ReadFault, TooLong}
+use Rattle.studio.specs.studio_rules.declared.status.Status.TheVariants.{WriteFault, Memory}
+use Rattle.studio.specs.studio_rules.Reading.{AreHeld, OnFile}
+use Rattle.studio.specs.studio_rules.Command.{Command, Editing, Undoing}
+use Rattle.studio.specs.studio_rules.Script.{OnScript}
+use Rattle.studio.specs.studio_rules.Edits.{UndoWork}
+use Rattle.studio.specs.studio_rules.Answers.{AnswersTo, WordsSay}
 use Rattle.studio.specs.Calls.{Call, Calls, HasFailed}
 use Rattle.call_laws.specs.EditLaws.{File, IsTooLong, IsPlantOrLong, EditIsUndone}
 use Rattle.call_laws.specs.EditCalls.{EndsTooLong, GivesBack, CallGivesBack}
-use Rattle.studio.proofs.Calls.{answered}
+use Rattle.studio.proofs.Cited.{answered}
 
 -- the same answer over another shelf that holds the two files
 moved : (work : Problem → List Edit → Status → List (List ℕ) → Type 0) (held later : List ℕ → Told)

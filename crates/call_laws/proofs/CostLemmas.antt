@@ -2,23 +2,23 @@
 use Rattle.std.proofs.Common.{◌≡◌, ℕ, Bool, true, false, List, Some, ℤ, ◌*ℤ◌, ◌≤ℤ◌, refl}
 use Rattle.std.proofs.Common.{subst, arith, inl, inr}
 use Rattle.std.proofs.lemmas.Int.{ints}
-use Rattle.number_sets.specs.Sets.{has}
-use Rattle.text_rules.specs.Outside.{Told}
-use Rattle.problem_rules.specs.Problem.{Problem}
-use Rattle.pns_rules.specs.Shape.{shape_of}
-use Rattle.pns_rules.specs.Structure.{IsStructure, IsAllowed}
-use Rattle.tree_rules.specs.Claim.{Network, Claim, network, infeasible, unknown, size_in}
-use Rattle.tree_rules.specs.Claim.{claimed_cost, IsAtLeast, IsFeasible, ClaimPasses}
-use Rattle.tree_rules.specs.Costs.{CostsEnough}
-use Rattle.tree_rules.specs.Known.{KnowsClaim}
-use Rattle.tree_rules.specs.Accepted.{Tree}
-use Rattle.tree_rules.specs.Tail.{Tail, whole, spent, past}
-use Rattle.studio_rules.specs.Reading.{GivesProblem, OnFile}
-use Rattle.studio_rules.specs.Solve.{HasProof, Holds, AreTextOf, AreHeadedTextOf, SolveWork}
-use Rattle.studio_rules.specs.Solve.{status_of}
-use Rattle.studio_rules.specs.declared.status.Status.{Status}
-use Rattle.studio_rules.specs.declared.status.Status.TheVariants.{Done}
-use Rattle.studio.proofs.Accepted.{is_held, one_problem}
+use Rattle.studio.specs.number_sets.Sets.{has}
+use Rattle.studio.specs.text_rules.Outside.{Told}
+use Rattle.studio.specs.problem_rules.Problem.{Problem}
+use Rattle.studio.specs.pns_rules.Shape.{shape_of}
+use Rattle.studio.specs.pns_rules.Structure.{IsStructure, IsAllowed}
+use Rattle.studio.specs.tree_rules.Claim.{Network, Claim, network, infeasible, unknown, size_in}
+use Rattle.studio.specs.tree_rules.Claim.{claimed_cost, IsAtLeast, IsFeasible, ClaimPasses}
+use Rattle.studio.specs.tree_rules.Costs.{CostsEnough}
+use Rattle.studio.specs.tree_rules.Known.{KnowsClaim}
+use Rattle.studio.specs.tree_rules.Accepted.{Tree}
+use Rattle.studio.specs.tree_rules.Tail.{Tail, whole, spent, past}
+use Rattle.studio.specs.studio_rules.Reading.{GivesProblem, OnFile}
+use Rattle.studio.specs.studio_rules.Solve.{HasProof, Holds, AreTextOf, AreHeadedTextOf, SolveWork}
+use Rattle.studio.specs.studio_rules.Solve.{status_of}
+use Rattle.studio.specs.studio_rules.declared.status.Status.{Status}
+use Rattle.studio.specs.studio_rules.declared.status.Status.TheVariants.{Done}
+use Rattle.studio.proofs.Cited.{is_held, one_problem}
 use Rattle.call_laws.specs.Costs.{ClaimSame, OneCost, PrintsClaim, SolvesAgree}
 
 pub antisym : (x y : ℤ) → x ≤ℤ y → y ≤ℤ x → x ≡ y

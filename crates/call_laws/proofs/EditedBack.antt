@@ -3,34 +3,34 @@ use Rattle.std.proofs.Common.{arith, ◌≡◌, ◌∷◌, [], Bool, true, false
 use Rattle.std.proofs.Common.{ℕ, zero, suc, List, Some, Result, Ok, Err, refl, sym, ap, ◌∙◌}
 use Rattle.std.proofs.Common.{subst, inl, inr}
 use Rattle.std.specs.Str.{bytes_eq}
-use Rattle.text_rules.specs.Outside.{Told}
-use Rattle.problem_rules.specs.Problem.{Problem}
-use Rattle.problem_rules.specs.Validity.{IsValid}
-use Rattle.problem_rules.specs.Each.{Each}
-use Rattle.text_rules.specs.Fault as texts
-use Rattle.text_rules.specs.Canonical.{canonical_lines}
-use Rattle.text_laws.specs.Laws.{CanonicalReads}
-use Rattle.edit_rules.specs.Edit.{Edit, Script}
-use Rattle.edit_rules.specs.Formed.{IsFormed, script_of}
-use Rattle.edit_rules.specs.Effect.{effect}
-use Rattle.edit_rules.specs.Fault.{Fault, Check, checks, first_fault, AreClear}
-use Rattle.edit_rules.specs.Script.{applied, undoing, CanApply, IsFirstFault}
-use Rattle.edit_laws.specs.Laws.{ScriptsAreUndone, AreUndone}
-use Rattle.edit_laws.specs.ScriptLaws.{PrintedScriptsRead}
-use Rattle.edit_rules.specs.Line.{file_type, script_lines}
-use Rattle.edit_rules.specs.Read.{read_script, text_read, lines_read}
-use Rattle.edit_rules.specs.ScriptFault as scripts
-use Rattle.edit_rules.specs.declared.EditKind.{EditKind}
-use Rattle.edit_rules.specs.declared.EditKind.TheVariants.{FileType}
-use Rattle.edit_scripts.proofs.ReadIsFormed.{read_formed}
-use Rattle.studio_rules.specs.Lines.{text_of}
-use Rattle.studio_rules.specs.declared.status.Status.{Status}
-use Rattle.studio_rules.specs.declared.status.Status.TheVariants.{Done, BadEdit, BadProblem}
-use Rattle.studio_rules.specs.declared.status.Status.TheVariants.{TooLong}
-use Rattle.studio_rules.specs.Reading.{FileFault, GivesProblem, OnFile}
-use Rattle.studio_rules.specs.Script.{GivesScript, OnScript, ScriptSays, HasEditFault}
-use Rattle.studio_rules.specs.Script.{printed_lines}
-use Rattle.studio_rules.specs.Edits.{EditWork, UndoWork}
+use Rattle.studio.specs.text_rules.Outside.{Told}
+use Rattle.studio.specs.problem_rules.Problem.{Problem}
+use Rattle.studio.specs.problem_rules.Validity.{IsValid}
+use Rattle.studio.specs.problem_rules.Each.{Each}
+use Rattle.studio.specs.text_rules.Fault as texts
+use Rattle.studio.specs.text_rules.Canonical.{canonical_lines}
+use Rattle.studio.specs.text_laws.Laws.{CanonicalReads}
+use Rattle.studio.specs.edit_rules.Edit.{Edit, Script}
+use Rattle.studio.specs.edit_rules.Formed.{IsFormed, script_of}
+use Rattle.studio.specs.edit_rules.Effect.{effect}
+use Rattle.studio.specs.edit_rules.Fault.{Fault, Check, checks, first_fault, AreClear}
+use Rattle.studio.specs.edit_rules.Script.{applied, undoing, CanApply, IsFirstFault}
+use Rattle.studio.specs.edit_laws.Laws.{ScriptsAreUndone, AreUndone}
+use Rattle.studio.specs.edit_laws.ScriptLaws.{PrintedScriptsRead}
+use Rattle.studio.specs.edit_rules.Line.{file_type, script_lines}
+use Rattle.studio.specs.edit_rules.Read.{read_script, text_read, lines_read}
+use Rattle.studio.specs.edit_rules.ScriptFault as scripts
+use Rattle.studio.specs.edit_rules.declared.EditKind.{EditKind}
+use Rattle.studio.specs.edit_rules.declared.EditKind.TheVariants.{FileType}
+use Rattle.studio.proofs.edit_scripts.Cited.{read_formed}
+use Rattle.studio.specs.studio_rules.Lines.{text_of}
+use Rattle.studio.specs.studio_rules.declared.status.Status.{Status}
+use Rattle.studio.specs.studio_rules.declared.status.Status.TheVariants.{Done, BadEdit, BadProblem}
+use Rattle.studio.specs.studio_rules.declared.status.Status.TheVariants.{TooLong}
+use Rattle.studio.specs.studio_rules.Reading.{FileFault, GivesProblem, OnFile}
+use Rattle.studio.specs.studio_rules.Script.{GivesScript, OnScript, ScriptSays, HasEditFault}
+use Rattle.studio.specs.studio_rules.Script.{printed_lines}
+use Rattle.studio.specs.studio_rules.Edits.{EditWork, UndoWork}
 use Rattle.call_laws.specs.EditLaws.{File, IsPlantOrLong, EditIsUndone}
 use Rattle.call_laws.specs.TextLaws.{CanonicalIsShort}
 use Rattle.call_laws.proofs.Given.{is_held, given_work}

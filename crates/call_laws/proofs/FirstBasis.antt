@@ -6,19 +6,18 @@ use Rattle.std.specs.Prelude.{ℤ, pos, ◌-ℤ◌, ◌*ℤ◌, neg_ℤ, ◌≤�
 use Rattle.std.proofs.Math.Path.{fun_ext}
 use Rattle.std.proofs.lemmas.Int.{ints}
 use Rattle.std.proofs.lemmas.Bool.Decides.{leb_tells}
-use Rattle.integer_laws.proofs.IndexTotals.{total_below-same, total_below-zero}
-use Rattle.integer_laws.proofs.Ring.{V, ◌⊗◌, ring}
-use Rattle.flow_rules.specs.LinearProgram.{LinearProgram, low_flow}
-use Rattle.flow_rules.specs.Columns.{Basis, Has, start, x_at, s_at, t_at, w_at, columns, right_at}
-use Rattle.flow_rules.specs.Columns.{scale_at}
-use Rattle.flow_rules.specs.Start.{IsStart}
-use Rattle.flow_rules.specs.Tableau.{IsTableau}
-use Rattle.flow_rules.specs.Pivots.{HasPivot, IsFeasible}
-use Rattle.flow_rules.specs.Path.{IsLast}
-use Rattle.path_laws.proofs.StartBasisLemmas.{start-has}
-use Rattle.path_laws.proofs.StartLemmas.{one-same, one-other, start_tableau}
-use Rattle.path_laws.proofs.StartTableauLemmas.{start_rows, start_exists}
-use Rattle.path_laws.proofs.LastLemmas.{agree, last_same, feasible_is_last, feasible_no_pivot}
+use Rattle.studio.proofs.integer_laws.Cited.{total_below-same, total_below-zero, V, ◌⊗◌, ring}
+use Rattle.studio.specs.flow_rules.LinearProgram.{LinearProgram, low_flow}
+use Rattle.studio.specs.flow_rules.Columns.{Basis, Has, start, x_at, s_at, t_at, w_at, columns}
+use Rattle.studio.specs.flow_rules.Columns.{right_at}
+use Rattle.studio.specs.flow_rules.Columns.{scale_at}
+use Rattle.studio.specs.flow_rules.Start.{IsStart}
+use Rattle.studio.specs.flow_rules.Tableau.{IsTableau}
+use Rattle.studio.specs.flow_rules.Pivots.{HasPivot, IsFeasible}
+use Rattle.studio.specs.flow_rules.Path.{IsLast}
+use Rattle.studio.proofs.path_laws.Cited.{start-has, one-same, one-other, start_tableau, start_rows}
+use Rattle.studio.proofs.path_laws.Cited.{start_exists, agree, last_same, feasible_is_last}
+use Rattle.studio.proofs.path_laws.Cited.{feasible_no_pivot}
 
 -- what holds of the numbers of such a program
 pub record StartsFeasible (p : LinearProgram) : Type 0 where

@@ -1,12 +1,12 @@
 -- The work of a command whose file gives the problem.
 use Rattle.std.proofs.Common.{◌≡◌, ℕ, List, Some, Result, Ok, Err, sym, ◌∙◌, subst}
 use Rattle.std.proofs.Common.{arith, inl, inr}
-use Rattle.text_rules.specs.Outside.{Told}
-use Rattle.problem_rules.specs.Problem.{Problem}
-use Rattle.text_rules.specs.Fault.{Fault}
-use Rattle.studio_rules.specs.declared.status.Status.{Status}
-use Rattle.studio_rules.specs.declared.status.Status.TheVariants.{BadProblem, TooLong}
-use Rattle.studio_rules.specs.Reading.{AreHeld, FileFault, GivesProblem, OnFile}
+use Rattle.studio.specs.text_rules.Outside.{Told}
+use Rattle.studio.specs.problem_rules.Problem.{Problem}
+use Rattle.studio.specs.text_rules.Fault.{Fault}
+use Rattle.studio.specs.studio_rules.declared.status.Status.{Status}
+use Rattle.studio.specs.studio_rules.declared.status.Status.TheVariants.{BadProblem, TooLong}
+use Rattle.studio.specs.studio_rules.Reading.{AreHeld, FileFault, GivesProblem, OnFile}
 
 pub is_held : (held : Told) (bytes file : List ℕ) → held ≡ Some (Some bytes) → AreHeld held file
     → file ≡ bytes

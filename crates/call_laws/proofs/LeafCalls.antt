@@ -6,39 +6,39 @@ use Rattle.std.proofs.Common.{sym, ap, subst, ◌∙◌, arith, inl, inr, lt-ltb
 use Rattle.std.specs.Fmt.{digit_glyph, digits_onto, digits}
 use Rattle.std.proofs.lemmas.Bool.{and_from, and_parts}
 use Rattle.std.proofs.lemmas.List.{append_cancel_left}
-use Rattle.number_sets.specs.Sets.{has, listed}
-use Rattle.number_sets.proofs.SetLemmas.{same_tests, has-listed, IsRising-listed, below_from}
-use Rattle.text_rules.specs.Outside.{Told}
-use Rattle.problem_rules.specs.Each.{Each}
-use Rattle.problem_rules.specs.Problem.{Problem}
-use Rattle.problem_rules.specs.Validity.{IsValid}
-use Rattle.problem_rules.specs.WellFormed.{ValidIsWellFormed}
-use Rattle.pns_rules.specs.Laws.{ValidIsProper}
-use Rattle.pns_rules.specs.Shape.{IsProper, shape_of}
-use Rattle.pns_rules.specs.Nodes.{Node}
-use Rattle.pns_rules.specs.Ends.{IsSound}
-use Rattle.pns_rules.specs.Tokens.{digit, AreDigits, token_of}
-use Rattle.tree_rules.specs.Tree.{leaf}
-use Rattle.tree_rules.specs.Leaf.{untried, IsUntried, LeafPasses}
-use Rattle.tree_rules.specs.Claim.{Claim, claimed_cost}
-use Rattle.tree_rules.specs.Accepted.{Tree, first_node, IsPartial}
-use Rattle.tree_rules.specs.Known as trees
-use Rattle.tree_rules.specs.Stops.{IsOpenAt}
-use Rattle.tree_rules.specs.Tail.{Tail, whole, spent, past}
-use Rattle.tree_text_rules.specs.Read.{Certificate, Fault, read_text}
-use Rattle.tree_text_rules.specs.OpenLeaves.{OpenAt, open_leaves, StandsOpen}
-use Rattle.tree_parts.specs.Laws.{OpenLeavesStand}
-use Rattle.studio_rules.specs.Lines.{text_of}
-use Rattle.studio_rules.specs.Part.{PartSays, PartWork, ClaimSays, AgainstWork}
-use Rattle.studio_rules.specs.Reading.{GivesProblem}
-use Rattle.studio_rules.specs.Solve.{Holds, status_of}
-use Rattle.studio_rules.specs.Split.{SplitWork, token_in, split_lines}
-use Rattle.studio_rules.specs.Start.{IsStart, OnStart}
-use Rattle.studio_rules.specs.TreeFile.{OnTree}
-use Rattle.studio_rules.specs.declared.status.Status.{Status}
-use Rattle.studio_rules.specs.declared.status.Status.TheVariants.{Done, Spent, BadNode}
-use Rattle.studio.proofs.Statuses.{part_status, claim_status}
-use Rattle.structure_list.proofs.TokenLemmas.{token_has_form}
+use Rattle.studio.specs.number_sets.Sets.{has, listed}
+use Rattle.studio.proofs.number_sets.Cited.{same_tests, has-listed, IsRising-listed, below_from}
+use Rattle.studio.specs.text_rules.Outside.{Told}
+use Rattle.studio.specs.problem_rules.Each.{Each}
+use Rattle.studio.specs.problem_rules.Problem.{Problem}
+use Rattle.studio.specs.problem_rules.Validity.{IsValid}
+use Rattle.studio.specs.problem_rules.WellFormed.{ValidIsWellFormed}
+use Rattle.studio.specs.pns_rules.Laws.{ValidIsProper}
+use Rattle.studio.specs.pns_rules.Shape.{IsProper, shape_of}
+use Rattle.studio.specs.pns_rules.Nodes.{Node}
+use Rattle.studio.specs.pns_rules.Ends.{IsSound}
+use Rattle.studio.specs.pns_rules.Tokens.{digit, AreDigits, token_of}
+use Rattle.studio.specs.tree_rules.Tree.{leaf}
+use Rattle.studio.specs.tree_rules.Leaf.{untried, IsUntried, LeafPasses}
+use Rattle.studio.specs.tree_rules.Claim.{Claim, claimed_cost}
+use Rattle.studio.specs.tree_rules.Accepted.{Tree, first_node, IsPartial}
+use Rattle.studio.specs.tree_rules.Known as trees
+use Rattle.studio.specs.tree_rules.Stops.{IsOpenAt}
+use Rattle.studio.specs.tree_rules.Tail.{Tail, whole, spent, past}
+use Rattle.studio.specs.tree_text_rules.Read.{Certificate, Fault, read_text}
+use Rattle.studio.specs.tree_text_rules.OpenLeaves.{OpenAt, open_leaves, StandsOpen}
+use Rattle.studio.specs.tree_parts.Laws.{OpenLeavesStand}
+use Rattle.studio.specs.studio_rules.Lines.{text_of}
+use Rattle.studio.specs.studio_rules.Part.{PartSays, PartWork, ClaimSays, AgainstWork}
+use Rattle.studio.specs.studio_rules.Reading.{GivesProblem}
+use Rattle.studio.specs.studio_rules.Solve.{Holds, status_of}
+use Rattle.studio.specs.studio_rules.Split.{SplitWork, token_in, split_lines}
+use Rattle.studio.specs.studio_rules.Start.{IsStart, OnStart}
+use Rattle.studio.specs.studio_rules.TreeFile.{OnTree}
+use Rattle.studio.specs.studio_rules.declared.status.Status.{Status}
+use Rattle.studio.specs.studio_rules.declared.status.Status.TheVariants.{Done, Spent, BadNode}
+use Rattle.studio.proofs.Cited.{part_status, claim_status}
+use Rattle.studio.proofs.structure_list.Cited.{token_has_form}
 use Rattle.call_laws.specs.Parts.{leaf_line}
 use Rattle.call_laws.specs.Leaves.{PartAnswers, SpentLeavesAreNodes}
 use Rattle.call_laws.proofs.Given.{is_held, given_work}

@@ -4,8 +4,8 @@ use Rattle.std.proofs.Common.{suc, Bool, true, false, List, nat_lt, decimal, if�
 use Rattle.std.proofs.Common.{sym, ap, subst, ◌∙◌, arith, inl, inr, append_assoc}
 use Rattle.std.specs.Fmt.{digit_glyph, digits_onto, digits}
 use Rattle.std.proofs.lemmas.Grind.{flat_map-append}
-use Rattle.problem_rules.specs.Each.{Each}
-use Rattle.studio_rules.specs.Lines.{line, text_of}
+use Rattle.studio.specs.problem_rules.Each.{Each}
+use Rattle.studio.specs.studio_rules.Lines.{line, text_of}
 
 -- no byte is a line feed
 abbrev pub IsOneLine : List ℕ → Type 0

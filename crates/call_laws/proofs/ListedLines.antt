@@ -7,26 +7,26 @@ use Rattle.std.specs.List.{list_any, Contains, slice_split}
 use Rattle.std.proofs.lemmas.Bool.{or_from}
 use Rattle.std.proofs.lemmas.List.{length-append, take_all}
 use Rattle.std.proofs.lemmas.List.Elements.{Contains-append_left, Contains-push_cases}
-use Rattle.text_rules.specs.Canonical.{joined}
-use Rattle.text_laws.proofs.Cuts.{split_joined}
-use Rattle.number_sets.specs.Sets.{has, IsSet, IsRising}
-use Rattle.number_sets.specs.Options.{IsIn}
-use Rattle.number_sets.proofs.SetLemmas.{below_from}
-use Rattle.problem_rules.specs.Each.{Each}
-use Rattle.problem_rules.specs.Problem.{Problem, unit_names}
-use Rattle.problem_rules.specs.WellFormed.{IsWellFormed}
-use Rattle.edit_rules.specs.Formed.{IsName}
-use Rattle.pns_rules.specs.Shape.{shape_of}
-use Rattle.pns_rules.specs.Structure.{IsStructure}
-use Rattle.pns_rules.specs.Listing.{IsListed}
-use Rattle.pns_rules.specs.Tokens.{digit, AreDigits, IsToken, token_of}
-use Rattle.structure_list.proofs.TokenLemmas.{token_has_form}
-use Rattle.tree_text_rules.specs.Line.{is_space}
-use Rattle.tree_text_rules.specs.Spelling.{unit_name}
-use Rattle.studio_rules.specs.Lines.{spaced_names, names_in}
-use Rattle.studio_rules.specs.Listing.{structure_line, more_line, last_of, last_line}
-use Rattle.studio_rules.specs.Listing.{listing_lines, ListingWork}
-use Rattle.studio_rules.specs.declared.status.Status.TheVariants.{Done}
+use Rattle.studio.specs.text_rules.Canonical.{joined}
+use Rattle.studio.proofs.text_laws.Cited.{split_joined}
+use Rattle.studio.specs.number_sets.Sets.{has, IsSet, IsRising}
+use Rattle.studio.specs.number_sets.Options.{IsIn}
+use Rattle.studio.proofs.number_sets.Cited.{below_from}
+use Rattle.studio.specs.problem_rules.Each.{Each}
+use Rattle.studio.specs.problem_rules.Problem.{Problem, unit_names}
+use Rattle.studio.specs.problem_rules.WellFormed.{IsWellFormed}
+use Rattle.studio.specs.edit_rules.Formed.{IsName}
+use Rattle.studio.specs.pns_rules.Shape.{shape_of}
+use Rattle.studio.specs.pns_rules.Structure.{IsStructure}
+use Rattle.studio.specs.pns_rules.Listing.{IsListed}
+use Rattle.studio.specs.pns_rules.Tokens.{digit, AreDigits, IsToken, token_of}
+use Rattle.studio.proofs.structure_list.Cited.{token_has_form}
+use Rattle.studio.specs.tree_text_rules.Line.{is_space}
+use Rattle.studio.specs.tree_text_rules.Spelling.{unit_name}
+use Rattle.studio.specs.studio_rules.Lines.{spaced_names, names_in}
+use Rattle.studio.specs.studio_rules.Listing.{structure_line, more_line, last_of, last_line}
+use Rattle.studio.specs.studio_rules.Listing.{listing_lines, ListingWork}
+use Rattle.studio.specs.studio_rules.declared.status.Status.TheVariants.{Done}
 use Rattle.call_laws.specs.OptimumLaws.{Lists}
 use Rattle.call_laws.proofs.UnitNames.{IsSolid, name_solid, names_solid, names_of_set}
 

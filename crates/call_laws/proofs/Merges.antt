@@ -2,35 +2,36 @@
 use Rattle.std.proofs.Common.{◌≡◌, ◌⊎◌, ◌≤◌, ◌<◌, ◌++◌, ◌∷◌, [], ℕ, zero, suc, true, List, Option}
 use Rattle.std.proofs.Common.{Some, None, Result, Ok, Err, codes, length, get_or, refl}
 use Rattle.std.proofs.Common.{subst, arith, inl, inr}
-use Rattle.text_rules.specs.Outside.{Told}
-use Rattle.problem_rules.specs.Problem.{Problem}
-use Rattle.problem_rules.specs.Validity.{IsValid}
-use Rattle.pns_rules.specs.Nodes.{Node}
-use Rattle.tree_rules.specs.Claim.{Claim, Network, network, infeasible, unknown}
-use Rattle.tree_rules.specs.Accepted.{Tree, first_node, IsPartial}
-use Rattle.tree_rules.specs.Tail.{Tail, whole, spent, past}
-use Rattle.tree_rules.specs.Refusals.{Refuses}
-use Rattle.tree_rules.specs.declared.refusal.Refusal.{Refusal}
-use Rattle.tree_rules.specs.declared.refusal.Refusal.TheVariants as refusals
-use Rattle.tree_laws.specs.Laws.{AcceptedIsPartial, PassingClaimHasNoFault, PassingTreeHasNoFault}
-use Rattle.tree_text_rules.specs.Read.{Fault}
-use Rattle.tree_text_rules.specs.Part.{Part, start_of}
-use Rattle.tree_text_rules.specs.PartRead.{PartReads}
-use Rattle.tree_text_rules.specs.Merge.{IsLeafOf, MergeFails}
-use Rattle.tree_text_rules.specs.Several.{StopsAt}
-use Rattle.tree_text_rules.specs.declared.merge_fault.MergeFault.{MergeFault}
-use Rattle.tree_text_rules.specs.declared.merge_fault.MergeFault.TheVariants as faults
-use Rattle.studio_rules.specs.Ending.{IsOneOf}
-use Rattle.studio_rules.specs.Merge.{FaultSays, MergeSays, MergeWork}
-use Rattle.studio_rules.specs.Part.{PartSays, PartWork, ClaimSays, AgainstWork, HoldsFrom}
-use Rattle.studio_rules.specs.PartFile.{PartFault, are_several}
-use Rattle.studio_rules.specs.Reading.{AreHeld}
-use Rattle.studio_rules.specs.Start.{IsStart}
-use Rattle.studio_rules.specs.TreeFile.{TreeFault, tree_limit}
-use Rattle.studio_rules.specs.declared.status.Status.{Status}
-use Rattle.studio_rules.specs.declared.status.Status.TheVariants.{Done, Spent, Past, TooLong}
-use Rattle.studio_rules.specs.declared.status.Status.TheVariants.{BadTree, BadNode, BadClaim}
-use Rattle.tree_parts.specs.PartLaws.{PartsAreReadOnce}
+use Rattle.studio.specs.text_rules.Outside.{Told}
+use Rattle.studio.specs.problem_rules.Problem.{Problem}
+use Rattle.studio.specs.problem_rules.Validity.{IsValid}
+use Rattle.studio.specs.pns_rules.Nodes.{Node}
+use Rattle.studio.specs.tree_rules.Claim.{Claim, Network, network, infeasible, unknown}
+use Rattle.studio.specs.tree_rules.Accepted.{Tree, first_node, IsPartial}
+use Rattle.studio.specs.tree_rules.Tail.{Tail, whole, spent, past}
+use Rattle.studio.specs.tree_rules.Refusals.{Refuses}
+use Rattle.studio.specs.tree_rules.declared.refusal.Refusal.{Refusal}
+use Rattle.studio.specs.tree_rules.declared.refusal.Refusal.TheVariants as refusals
+use Rattle.studio.specs.tree_laws.Laws.{AcceptedIsPartial, PassingClaimHasNoFault}
+use Rattle.studio.specs.tree_laws.Laws.{PassingTreeHasNoFault}
+use Rattle.studio.specs.tree_text_rules.Read.{Fault}
+use Rattle.studio.specs.tree_text_rules.Part.{Part, start_of}
+use Rattle.studio.specs.tree_text_rules.PartRead.{PartReads}
+use Rattle.studio.specs.tree_text_rules.Merge.{IsLeafOf, MergeFails}
+use Rattle.studio.specs.tree_text_rules.Several.{StopsAt}
+use Rattle.studio.specs.tree_text_rules.declared.merge_fault.MergeFault.{MergeFault}
+use Rattle.studio.specs.tree_text_rules.declared.merge_fault.MergeFault.TheVariants as faults
+use Rattle.studio.specs.studio_rules.Ending.{IsOneOf}
+use Rattle.studio.specs.studio_rules.Merge.{FaultSays, MergeSays, MergeWork}
+use Rattle.studio.specs.studio_rules.Part.{PartSays, PartWork, ClaimSays, AgainstWork, HoldsFrom}
+use Rattle.studio.specs.studio_rules.PartFile.{PartFault, are_several}
+use Rattle.studio.specs.studio_rules.Reading.{AreHeld}
+use Rattle.studio.specs.studio_rules.Start.{IsStart}
+use Rattle.studio.specs.studio_rules.TreeFile.{TreeFault, tree_limit}
+use Rattle.studio.specs.studio_rules.declared.status.Status.{Status}
+use Rattle.studio.specs.studio_rules.declared.status.Status.TheVariants.{Done, Spent, Past, TooLong}
+use Rattle.studio.specs.studio_rules.declared.status.Status.TheVariants.{BadTree, BadNode, BadClaim}
+use Rattle.studio.specs.tree_parts.PartLaws.{PartsAreReadOnce}
 
 -- ---- what `part` finds
 

@@ -7,36 +7,34 @@ use Rattle.std.specs.List.{AllByRecursion}
 use Rattle.std.proofs.Math.Path.{fun_ext}
 use Rattle.std.proofs.lemmas.Int.{ints}
 use Rattle.std.proofs.lemmas.List.Elements.{All-get_or}
-use Rattle.integer_laws.specs.declared.which.Which.{Which}
-use Rattle.integer_laws.proofs.Order.{mul_nonneg}
-use Rattle.integer_laws.proofs.Ring.{ring_z}
-use Rattle.number_sets.specs.Sets.{has}
-use Rattle.number_sets.proofs.SetLemmas.{has_below, AreBelow-listed}
-use Rattle.problem_rules.specs.Problem.{Problem}
-use Rattle.problem_rules.specs.Validity.{IsValid}
-use Rattle.problem_rules.proofs.ValidLemmas.{well_formed_from_valid}
-use Rattle.pns_rules.specs.Structure.{mats}
-use Rattle.pns_rules.specs.Nodes.{Node}
-use Rattle.flow_rules.specs.Net.{Net, net_of, million, beside, size_cost, units_of}
-use Rattle.flow_rules.specs.Relaxed.{stays, units, rows, lower_at, row_low, row_high, unit_low}
-use Rattle.flow_rules.specs.Relaxed.{unit_cost, slope}
-use Rattle.flow_rules.specs.Steps.{IsFirstPast}
-use Rattle.flow_rules.specs.BoundSteps.{bound_steps}
-use Rattle.flow_rules.specs.CostSteps.{cost_steps}
-use Rattle.flow_rules.specs.FeasibleSteps.{feasible_steps}
-use Rattle.flow_rules.specs.Program.{program_of, IsProgram, IsWithin}
-use Rattle.flow_rules.proofs.LeadingLemmas.{not_both}
-use Rattle.flow_rules.proofs.NetLemmas.{IsNet, net_of_valid}
-use Rattle.flow_rules.proofs.RelaxedLemmas.{slope_positive}
-use Rattle.flow_rules.proofs.SameLemmas.{all_had}
-use Rattle.flow_program.proofs.ProgramLemmas.{program_is}
-use Rattle.flow_rules.specs.LinearProgram.{LinearProgram, linear}
-use Rattle.flow_rules.specs.Columns.{Basis, start, right_at}
-use Rattle.flow_rules.specs.Tableau.{IsTableau}
-use Rattle.flow_rules.specs.Pivots.{first_kind, second_kind}
-use Rattle.flow_rules.specs.Places.{Place, Entry, Flow, Cost, FlowSum, Bound, Refute, IsPastPivot}
-use Rattle.flow_rules.specs.Places.{at_first, at_second, IsPastAt, IsPast}
-use Rattle.path_laws.proofs.PlaceLemmas.{at-map, place_of, has_at}
+use Rattle.studio.specs.integer_laws.declared.which.Which.{Which}
+use Rattle.studio.proofs.integer_laws.Cited.{mul_nonneg, ring_z}
+use Rattle.studio.specs.number_sets.Sets.{has}
+use Rattle.studio.proofs.number_sets.Cited.{has_below, AreBelow-listed}
+use Rattle.studio.specs.problem_rules.Problem.{Problem}
+use Rattle.studio.specs.problem_rules.Validity.{IsValid}
+use Rattle.studio.proofs.problem_rules.Cited.{well_formed_from_valid}
+use Rattle.studio.specs.pns_rules.Structure.{mats}
+use Rattle.studio.specs.pns_rules.Nodes.{Node}
+use Rattle.studio.specs.flow_rules.Net.{Net, net_of, million, beside, size_cost, units_of}
+use Rattle.studio.specs.flow_rules.Relaxed.{stays, units, rows, lower_at, row_low, row_high}
+use Rattle.studio.specs.flow_rules.Relaxed.{unit_low}
+use Rattle.studio.specs.flow_rules.Relaxed.{unit_cost, slope}
+use Rattle.studio.specs.flow_rules.Steps.{IsFirstPast}
+use Rattle.studio.specs.flow_rules.BoundSteps.{bound_steps}
+use Rattle.studio.specs.flow_rules.CostSteps.{cost_steps}
+use Rattle.studio.specs.flow_rules.FeasibleSteps.{feasible_steps}
+use Rattle.studio.specs.flow_rules.Program.{program_of, IsProgram, IsWithin}
+use Rattle.studio.proofs.flow_rules.Cited.{not_both, IsNet, net_of_valid, slope_positive, all_had}
+use Rattle.studio.proofs.flow_program.Cited.{program_is}
+use Rattle.studio.specs.flow_rules.LinearProgram.{LinearProgram, linear}
+use Rattle.studio.specs.flow_rules.Columns.{Basis, start, right_at}
+use Rattle.studio.specs.flow_rules.Tableau.{IsTableau}
+use Rattle.studio.specs.flow_rules.Pivots.{first_kind, second_kind}
+use Rattle.studio.specs.flow_rules.Places.{Place, Entry, Flow, Cost, FlowSum, Bound, Refute}
+use Rattle.studio.specs.flow_rules.Places.{IsPastPivot}
+use Rattle.studio.specs.flow_rules.Places.{at_first, at_second, IsPastAt, IsPast}
+use Rattle.studio.proofs.path_laws.Cited.{at-map, place_of, has_at}
 use Rattle.call_laws.specs.NoDemands.{HasNoDemands}
 use Rattle.call_laws.specs.Laws.{NothingIsPast, NothingStops}
 use Rattle.call_laws.proofs.UnionLemmas.{not_below_limit}

@@ -4,22 +4,21 @@ use Rattle.std.proofs.Common.{◌≡◌, ◌<◌, ◌||◌, ◌&&◌, ◌==◌, 
 use Rattle.std.proofs.Common.{nat_lt, List, [], ◌∷◌, ◌++◌, map, refl, sym, subst, ◌∙◌, inl, inr}
 use Rattle.std.proofs.Common.{ltb-true, eq-eqb}
 use Rattle.std.proofs.lemmas.Bool.{or_cases, and_parts, both_ways, eqb-true}
-use Rattle.number_sets.specs.Sets.{has, listed}
-use Rattle.number_sets.specs.Options.{IsIn}
-use Rattle.number_sets.proofs.SetLemmas.{has-listed}
-use Rattle.number_sets.proofs.OptionLists.{in_option}
-use Rattle.pns_rules.specs.Shape.{Shape, IsProper}
-use Rattle.pns_rules.specs.Structure.{makers}
-use Rattle.pns_rules.specs.Nodes.{Node, Step, raw, rival, starve, loose, sole, is_free}
-use Rattle.pns_rules.specs.Nodes.{IsPossible}
-use Rattle.pns_rules.specs.Nodes.{after, base_makers, free_makers}
-use Rattle.pns_rules.proofs.OptionLemmas.{makers_apart, base_set, free_set}
-use Rattle.tree_rules.specs.Ways.{Way, at_material, either, MayBranch, decides, options_at}
-use Rattle.tree_rules.specs.Ways.{child_at}
-use Rattle.tree_rules.specs.Tree.{End, branch, leaf, TreeNode, StepsPass, after_all, below}
-use Rattle.tree_rules.specs.Tree.{Stands}
-use Rattle.tree_rules.specs.Tree.{EndPasses, Pass}
-use Rattle.tree_laws.proofs.WayLemmas.{only}
+use Rattle.studio.specs.number_sets.Sets.{has, listed}
+use Rattle.studio.specs.number_sets.Options.{IsIn}
+use Rattle.studio.proofs.number_sets.Cited.{has-listed, in_option}
+use Rattle.studio.specs.pns_rules.Shape.{Shape, IsProper}
+use Rattle.studio.specs.pns_rules.Structure.{makers}
+use Rattle.studio.specs.pns_rules.Nodes.{Node, Step, raw, rival, starve, loose, sole, is_free}
+use Rattle.studio.specs.pns_rules.Nodes.{IsPossible}
+use Rattle.studio.specs.pns_rules.Nodes.{after, base_makers, free_makers}
+use Rattle.studio.proofs.pns_rules.Cited.{makers_apart, base_set, free_set}
+use Rattle.studio.specs.tree_rules.Ways.{Way, at_material, either, MayBranch, decides, options_at}
+use Rattle.studio.specs.tree_rules.Ways.{child_at}
+use Rattle.studio.specs.tree_rules.Tree.{End, branch, leaf, TreeNode, StepsPass, after_all, below}
+use Rattle.studio.specs.tree_rules.Tree.{Stands}
+use Rattle.studio.specs.tree_rules.Tree.{EndPasses, Pass}
+use Rattle.studio.proofs.tree_laws.Cited.{only}
 
 module _ (g : Shape) (proper : IsProper g) where
   abbrev IsSmall : (ℕ → Bool) → Type 0

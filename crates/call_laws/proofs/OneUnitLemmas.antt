@@ -2,11 +2,11 @@
 use Rattle.std.proofs.Common.{◌≡◌, ◌<◌, ℕ, zero, suc, Ok, arith, refl}
 use Rattle.std.specs.Prelude.{pos, ◌≤ℤ◌}
 use Rattle.std.proofs.lemmas.Int.{ints}
-use Rattle.problem_rules.specs.Problem.{material_at, unit_at}
-use Rattle.problem_rules.specs.Validity.{IsValid}
-use Rattle.text_rules.specs.Value.{read_text}
-use Rattle.flow_rules.specs.Net.{net_of, size_cost}
-use Rattle.studio_rules.specs.Reading.{GivesProblem}
+use Rattle.studio.specs.problem_rules.Problem.{material_at, unit_at}
+use Rattle.studio.specs.problem_rules.Validity.{IsValid}
+use Rattle.studio.specs.text_rules.Value.{read_text}
+use Rattle.studio.specs.flow_rules.Net.{net_of, size_cost}
+use Rattle.studio.specs.studio_rules.Reading.{GivesProblem}
 use Rattle.call_laws.specs.NoDemands.{HasNoDemands}
 use Rattle.call_laws.specs.OneUnit.{one_unit_text, one_unit, OneUnitIsSure}
 

@@ -6,46 +6,48 @@ use Rattle.std.proofs.Common.{inl, inr}
 use Rattle.std.specs.Fmt.{digits}
 use Rattle.std.specs.List.{Contains}
 use Rattle.std.proofs.lemmas.Int.{by_lt_z, ints}
-use Rattle.text_rules.specs.Outside.{Told}
-use Rattle.number_sets.specs.Sets.{has, IsSet}
-use Rattle.problem_rules.specs.Problem.{Problem}
-use Rattle.problem_rules.specs.Validity.{IsValid}
-use Rattle.problem_rules.specs.WellFormed.{IsWellFormed, ValidIsWellFormed}
-use Rattle.pns_rules.specs.Shape.{shape_of}
-use Rattle.pns_rules.specs.Structure.{IsStructure}
-use Rattle.pns_rules.specs.Verdict.{Judges}
-use Rattle.pns_rules.specs.declared.verdict.Verdict.{Verdict}
-use Rattle.pns_rules.specs.declared.verdict.Verdict.TheVariants.{Meets, Breaks}
-use Rattle.flow_rules.specs.Net.{net_of}
-use Rattle.flow_rules.specs.Flows.{IsFlows, cost}
-use Rattle.tree_rules.specs.Claim.{Claim, Network, network, infeasible, unknown, CostOver}
-use Rattle.tree_rules.specs.Claim.{claimed_cost, size_in, IsAtLeast, IsFeasible}
-use Rattle.tree_rules.specs.Costs.{CostsEnough, HasFallen}
-use Rattle.tree_rules.specs.Tree.{leaf}
-use Rattle.tree_rules.specs.Leaf.{bounded, refuted}
-use Rattle.tree_rules.specs.Accepted.{Tree}
-use Rattle.tree_rules.specs.Known.{KnowsClaim}
-use Rattle.tree_rules.specs.Tail.{Tail, whole, spent, past}
-use Rattle.tree_text_rules.specs.Line.{Token, file_type as tree_type}
-use Rattle.tree_text_rules.specs.Spelling.{unit_name, network_lines, end_line, claim_lines}
-use Rattle.tree_text_rules.specs.Spelling.{front_lines, tree_lines, tail_lines, tree_text_lines}
-use Rattle.rank_rules.specs.Networks.{cost_of, network_at, numbered, IsListed as IsRankListed}
-use Rattle.rank_rules.specs.Networks.{last_cost, to_undercut, IsNoCheaper, ArePassing}
-use Rattle.rank_rules.specs.Ranked.{IsRanked}
-use Rattle.rank_rules.specs.Text.{Text, ranking_of}
-use Rattle.rank_rules.specs.Spelling.{file_type, count_word, networks_word, distinct_lines}
-use Rattle.rank_rules.specs.Spelling.{listed_lines, rank_text_lines, grown_lines}
-use Rattle.rank_laws.proofs.NetworkLemmas.{at_least_too, at_most_last, AtMostLast}
-use Rattle.rank_laws.proofs.RankedLemmas.{other_costs_enough}
-use Rattle.studio_rules.specs.Printed.{spelled}
-use Rattle.studio_rules.specs.declared.status.Status.TheVariants.{Done}
-use Rattle.studio_rules.specs.Reading.{GivesProblem, OnFile}
-use Rattle.studio_rules.specs.Axioms.{units_named, first_stranger}
-use Rattle.studio_rules.specs.Flows.{FlowsWork, FlowNamesSay, UnitsSay, FlowsSay}
-use Rattle.studio_rules.specs.Listing.{ListingWork}
-use Rattle.studio_rules.specs.Solve.{SolveWork, Holds, status_of}
-use Rattle.studio_rules.specs.Rank as ranks
-use Rattle.studio_rules.specs.Rankcheck.{AreBest}
+use Rattle.studio.specs.text_rules.Outside.{Told}
+use Rattle.studio.specs.number_sets.Sets.{has, IsSet}
+use Rattle.studio.specs.problem_rules.Problem.{Problem}
+use Rattle.studio.specs.problem_rules.Validity.{IsValid}
+use Rattle.studio.specs.problem_rules.WellFormed.{IsWellFormed, ValidIsWellFormed}
+use Rattle.studio.specs.pns_rules.Shape.{shape_of}
+use Rattle.studio.specs.pns_rules.Structure.{IsStructure}
+use Rattle.studio.specs.pns_rules.Verdict.{Judges}
+use Rattle.studio.specs.pns_rules.declared.verdict.Verdict.{Verdict}
+use Rattle.studio.specs.pns_rules.declared.verdict.Verdict.TheVariants.{Meets, Breaks}
+use Rattle.studio.specs.flow_rules.Net.{net_of}
+use Rattle.studio.specs.flow_rules.Flows.{IsFlows, cost}
+use Rattle.studio.specs.tree_rules.Claim.{Claim, Network, network, infeasible, unknown, CostOver}
+use Rattle.studio.specs.tree_rules.Claim.{claimed_cost, size_in, IsAtLeast, IsFeasible}
+use Rattle.studio.specs.tree_rules.Costs.{CostsEnough, HasFallen}
+use Rattle.studio.specs.tree_rules.Tree.{leaf}
+use Rattle.studio.specs.tree_rules.Leaf.{bounded, refuted}
+use Rattle.studio.specs.tree_rules.Accepted.{Tree}
+use Rattle.studio.specs.tree_rules.Known.{KnowsClaim}
+use Rattle.studio.specs.tree_rules.Tail.{Tail, whole, spent, past}
+use Rattle.studio.specs.tree_text_rules.Line.{Token, file_type as tree_type}
+use Rattle.studio.specs.tree_text_rules.Spelling.{unit_name, network_lines, end_line, claim_lines}
+use Rattle.studio.specs.tree_text_rules.Spelling.{front_lines, tree_lines, tail_lines}
+use Rattle.studio.specs.tree_text_rules.Spelling.{tree_text_lines}
+use Rattle.studio.specs.rank_rules.Networks.{cost_of, network_at, numbered}
+use Rattle.studio.specs.rank_rules.Networks.{IsListed as IsRankListed}
+use Rattle.studio.specs.rank_rules.Networks.{last_cost, to_undercut, IsNoCheaper, ArePassing}
+use Rattle.studio.specs.rank_rules.Ranked.{IsRanked}
+use Rattle.studio.specs.rank_rules.Text.{Text, ranking_of}
+use Rattle.studio.specs.rank_rules.Spelling.{file_type, count_word, networks_word, distinct_lines}
+use Rattle.studio.specs.rank_rules.Spelling.{listed_lines, rank_text_lines, grown_lines}
+use Rattle.studio.proofs.rank_laws.Cited.{at_least_too, at_most_last, AtMostLast}
+use Rattle.studio.proofs.rank_laws.Cited.{other_costs_enough}
+use Rattle.studio.specs.studio_rules.Printed.{spelled}
+use Rattle.studio.specs.studio_rules.declared.status.Status.TheVariants.{Done}
+use Rattle.studio.specs.studio_rules.Reading.{GivesProblem, OnFile}
+use Rattle.studio.specs.studio_rules.Axioms.{units_named, first_stranger}
+use Rattle.studio.specs.studio_rules.Flows.{FlowsWork, FlowNamesSay, UnitsSay, FlowsSay}
+use Rattle.studio.specs.studio_rules.Listing.{ListingWork}
+use Rattle.studio.specs.studio_rules.Solve.{SolveWork, Holds, status_of}
+use Rattle.studio.specs.studio_rules.Rank as ranks
+use Rattle.studio.specs.studio_rules.Rankcheck.{AreBest}
 use Rattle.call_laws.specs.OptimumLaws.{TellNetwork, FlowsTell, SolveTells, RankTells}
 use Rattle.call_laws.specs.OptimumLaws.{IsSameCost, ListedCostEnough, IsReached}
 use Rattle.call_laws.specs.OptimumLaws.{OptimumIsListed, FirstIsOptimal}

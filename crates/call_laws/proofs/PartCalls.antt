@@ -1,38 +1,37 @@
 -- What `part` put out for an open leaf, `merge` puts back: the three calls.
 use Rattle.std.proofs.Common.{◌≡◌, ◌⊎◌, ◌≤◌, ◌<◌, ◌++◌, ◌∷◌, [], ℕ, List, Option, Ok}
 use Rattle.std.proofs.Common.{codes, length, refl, sym, ap, subst, ◌∙◌, inl, inr}
-use Rattle.problem_rules.specs.Problem.{Problem}
-use Rattle.problem_rules.specs.WellFormed.{ValidIsWellFormed}
-use Rattle.pns_rules.specs.Laws.{ValidIsProper}
-use Rattle.pns_rules.specs.Shape.{shape_of}
-use Rattle.pns_rules.specs.Tokens.{token_of}
-use Rattle.tree_rules.specs.Claim.{Claim}
-use Rattle.tree_rules.specs.Accepted.{Tree, first_node, IsPartial}
-use Rattle.tree_laws.specs.Laws.{AcceptedIsPartial, PassingClaimHasNoFault, PassingTreeHasNoFault}
-use Rattle.tree_text_rules.specs.OpenLeaves.{OpenAt, open_leaves}
-use Rattle.tree_text_rules.specs.Part.{Part, start_of}
-use Rattle.tree_text_rules.specs.PartRead.{PartReads}
-use Rattle.tree_text_rules.specs.Merge.{IsLeafOf}
-use Rattle.tree_parts.specs.Laws.{OpenLeavesStand}
-use Rattle.tree_parts.specs.PartLaws.{PartsAreReadOnce}
-use Rattle.studio_rules.specs.Answers.{AnswersTo, CommandAnswers, WordsSay}
-use Rattle.studio_rules.specs.Command.{Command, Splitting, Parting, PartingAgainst, Merging}
-use Rattle.studio_rules.specs.Command.{command_of}
-use Rattle.studio_rules.specs.Ending.{Finishes, Writes}
-use Rattle.studio_rules.specs.Lines.{line, text_of}
-use Rattle.studio_rules.specs.Merge.{MergeWork}
-use Rattle.studio_rules.specs.Part.{PartWork, AgainstWork, part_from}
-use Rattle.studio_rules.specs.Reading.{GivesProblem, OnFile}
-use Rattle.studio_rules.specs.Split.{SplitWork, split_lines}
-use Rattle.studio_rules.specs.TreeFile.{GivesTree, OnTree, tree_limit}
-use Rattle.studio_rules.specs.declared.status.Status.{Status}
-use Rattle.studio_rules.specs.declared.status.Status.TheVariants.{Done, Spent, Past, TooLong}
-use Rattle.command_files.proofs.Ending.{one_line, writes_as}
-use Rattle.command_files.proofs.Put.{IsText, text_out}
+use Rattle.studio.specs.problem_rules.Problem.{Problem}
+use Rattle.studio.specs.problem_rules.WellFormed.{ValidIsWellFormed}
+use Rattle.studio.specs.pns_rules.Laws.{ValidIsProper}
+use Rattle.studio.specs.pns_rules.Shape.{shape_of}
+use Rattle.studio.specs.pns_rules.Tokens.{token_of}
+use Rattle.studio.specs.tree_rules.Claim.{Claim}
+use Rattle.studio.specs.tree_rules.Accepted.{Tree, first_node, IsPartial}
+use Rattle.studio.specs.tree_laws.Laws.{AcceptedIsPartial, PassingClaimHasNoFault}
+use Rattle.studio.specs.tree_laws.Laws.{PassingTreeHasNoFault}
+use Rattle.studio.specs.tree_text_rules.OpenLeaves.{OpenAt, open_leaves}
+use Rattle.studio.specs.tree_text_rules.Part.{Part, start_of}
+use Rattle.studio.specs.tree_text_rules.PartRead.{PartReads}
+use Rattle.studio.specs.tree_text_rules.Merge.{IsLeafOf}
+use Rattle.studio.specs.tree_parts.Laws.{OpenLeavesStand}
+use Rattle.studio.specs.tree_parts.PartLaws.{PartsAreReadOnce}
+use Rattle.studio.specs.studio_rules.Answers.{AnswersTo, CommandAnswers, WordsSay}
+use Rattle.studio.specs.studio_rules.Command.{Command, Splitting, Parting, PartingAgainst, Merging}
+use Rattle.studio.specs.studio_rules.Command.{command_of}
+use Rattle.studio.specs.studio_rules.Ending.{Finishes, Writes}
+use Rattle.studio.specs.studio_rules.Lines.{line, text_of}
+use Rattle.studio.specs.studio_rules.Merge.{MergeWork}
+use Rattle.studio.specs.studio_rules.Part.{PartWork, AgainstWork, part_from}
+use Rattle.studio.specs.studio_rules.Reading.{GivesProblem, OnFile}
+use Rattle.studio.specs.studio_rules.Split.{SplitWork, split_lines}
+use Rattle.studio.specs.studio_rules.TreeFile.{GivesTree, OnTree, tree_limit}
+use Rattle.studio.specs.studio_rules.declared.status.Status.{Status}
+use Rattle.studio.specs.studio_rules.declared.status.Status.TheVariants.{Done, Spent, Past, TooLong}
+use Rattle.studio.proofs.command_files.Cited.{one_line, writes_as, IsText, text_out}
 use Rattle.studio.specs.Calls.{Call, Calls, Holds, EndsWith, HasFailed}
-use Rattle.studio.proofs.Accepted.{is_held}
-use Rattle.studio.proofs.Calls.{Same, same_file, appended, answered, ended, given_work}
-use Rattle.studio.proofs.Merged.{given_tree}
+use Rattle.studio.proofs.Cited.{is_held, Same, calls_same_file as same_file, appended, answered}
+use Rattle.studio.proofs.Cited.{ended, given_work, given_tree}
 use Rattle.call_laws.specs.Parts.{leaf_line, PartsFrom, Finds, Takes, MergeTakesPart}
 use Rattle.call_laws.proofs.Starts.{IsTold, told_leaf, leaf_is_start}
 use Rattle.call_laws.proofs.Merges.{IsPrinted, IsFound, found_alone, found_against, found_partial}

@@ -6,38 +6,37 @@ use Rattle.std.specs.List.{Contains}
 use Rattle.std.proofs.lemmas.List.Sorted.{IsPermutation-refl, IsPermutation-cons}
 use Rattle.std.proofs.lemmas.List.Sorted.{IsPermutation-trans, IsPermutation-middle}
 use Rattle.std.proofs.lemmas.List.Sorted.{IsPermutation-sym, Contains-permutation}
-use Rattle.text_rules.specs.Outside.{Told}
-use Rattle.problem_rules.specs.Each.{Each}
-use Rattle.problem_rules.specs.Problem.{Problem}
-use Rattle.problem_rules.specs.Validity.{IsValid}
-use Rattle.tree_rules.specs.Tree.{IsTree}
-use Rattle.tree_rules.specs.Claim.{Claim}
-use Rattle.tree_rules.specs.Accepted.{Tree}
-use Rattle.tree_rules.specs.Tail.{whole}
-use Rattle.tree_laws.specs.Laws.{PassingClaimHasNoFault, PassingTreeHasNoFault}
-use Rattle.tree_text_rules.specs.Read.{Certificate, Fault, read_text}
-use Rattle.tree_text_rules.specs.Spelling.{tree_text, tree_text_lines}
-use Rattle.tree_text_laws.specs.Laws.{ReadTextsAreSpelled}
-use Rattle.tree_text_rules.specs.Part.{Part}
-use Rattle.tree_text_rules.specs.Graft.{claim_of_both}
-use Rattle.tree_text_rules.specs.Merge.{IsMerged}
-use Rattle.tree_text_rules.specs.Several.{AreMerged}
-use Rattle.tree_text_rules.specs.PartRead.{PartReads}
-use Rattle.tree_parts.specs.Order.{AnyOrder, EachOrder}
-use Rattle.tree_parts.proofs.ReorderLemmas.{Reorders, stay, under, turn, next, reorders}
-use Rattle.tree_parts.specs.PartLaws.{PartsAreReadOnce, ReadPartsAreSpelled}
-use Rattle.studio_rules.specs.Lines.{text_of}
-use Rattle.studio_rules.specs.Reading.{AreHeld}
-use Rattle.studio_rules.specs.Solve.{AreTextOf}
-use Rattle.studio_rules.specs.TreeFile.{GivesTree, OnTree}
-use Rattle.studio_rules.specs.PartFile.{GivesPart, GiveParts, are_several}
-use Rattle.studio_rules.specs.Merge.{MergedSays, MergeWork}
-use Rattle.studio_rules.specs.declared.status.Status.{Status}
-use Rattle.studio_rules.specs.declared.status.Status.TheVariants.{Done}
-use Rattle.command_files.proofs.Printing.{spelled_text}
-use Rattle.studio.proofs.Causes.{same_file, first_part, not_parts}
-use Rattle.studio.proofs.Merged.{given_tree}
-use Rattle.studio.proofs.Statuses.{merge_fault_status}
+use Rattle.studio.specs.text_rules.Outside.{Told}
+use Rattle.studio.specs.problem_rules.Each.{Each}
+use Rattle.studio.specs.problem_rules.Problem.{Problem}
+use Rattle.studio.specs.problem_rules.Validity.{IsValid}
+use Rattle.studio.specs.tree_rules.Tree.{IsTree}
+use Rattle.studio.specs.tree_rules.Claim.{Claim}
+use Rattle.studio.specs.tree_rules.Accepted.{Tree}
+use Rattle.studio.specs.tree_rules.Tail.{whole}
+use Rattle.studio.specs.tree_laws.Laws.{PassingClaimHasNoFault, PassingTreeHasNoFault}
+use Rattle.studio.specs.tree_text_rules.Read.{Certificate, Fault, read_text}
+use Rattle.studio.specs.tree_text_rules.Spelling.{tree_text, tree_text_lines}
+use Rattle.studio.specs.tree_text_laws.Laws.{ReadTextsAreSpelled}
+use Rattle.studio.specs.tree_text_rules.Part.{Part}
+use Rattle.studio.specs.tree_text_rules.Graft.{claim_of_both}
+use Rattle.studio.specs.tree_text_rules.Merge.{IsMerged}
+use Rattle.studio.specs.tree_text_rules.Several.{AreMerged}
+use Rattle.studio.specs.tree_text_rules.PartRead.{PartReads}
+use Rattle.studio.specs.tree_parts.Order.{AnyOrder, EachOrder}
+use Rattle.studio.proofs.tree_parts.Cited.{Reorders, stay, under, turn, next, reorders}
+use Rattle.studio.specs.tree_parts.PartLaws.{PartsAreReadOnce, ReadPartsAreSpelled}
+use Rattle.studio.specs.studio_rules.Lines.{text_of}
+use Rattle.studio.specs.studio_rules.Reading.{AreHeld}
+use Rattle.studio.specs.studio_rules.Solve.{AreTextOf}
+use Rattle.studio.specs.studio_rules.TreeFile.{GivesTree, OnTree}
+use Rattle.studio.specs.studio_rules.PartFile.{GivesPart, GiveParts, are_several}
+use Rattle.studio.specs.studio_rules.Merge.{MergedSays, MergeWork}
+use Rattle.studio.specs.studio_rules.declared.status.Status.{Status}
+use Rattle.studio.specs.studio_rules.declared.status.Status.TheVariants.{Done}
+use Rattle.studio.proofs.command_files.Cited.{spelled_text}
+use Rattle.studio.proofs.Cited.{causes_same_file as same_file, first_part, not_parts, given_tree}
+use Rattle.studio.proofs.Cited.{merge_fault_status}
 use Rattle.call_laws.specs.PartOrders.{GiveApart, PrintOneTree, MergesAgree, EachOrderMerges}
 use Rattle.call_laws.proofs.Given.{is_held, given_work}
 use Rattle.call_laws.proofs.Merges.{no_fault}

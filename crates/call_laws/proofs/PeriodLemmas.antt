@@ -1,29 +1,29 @@
 -- What `expand` prints gives the expanded problem, and `solve` and `periods` print one cost of it.
 use Rattle.std.proofs.Common.{◌≡◌, ◌⊎◌, ℕ, List, Some, Result, Ok, Err, refl, sym, ap, ◌∙◌, subst}
 use Rattle.std.proofs.Common.{inl, inr}
-use Rattle.text_rules.specs.Fault as texts
-use Rattle.text_rules.specs.Outside.{Told}
-use Rattle.text_rules.specs.Value.{read_text}
-use Rattle.text_laws.specs.Laws.{CanonicalReads}
-use Rattle.problem_rules.specs.Problem.{Problem}
-use Rattle.plan_rules.specs.Expanded.{expanded}
-use Rattle.plan_rules.specs.Plan.{Plan}
-use Rattle.plan_rules.specs.Read as plans
-use Rattle.plan_laws.specs.Laws.{ExpandedIsValid}
-use Rattle.tree_rules.specs.Claim.{Claim, network, infeasible, unknown}
-use Rattle.plan_rules.specs.Folded.{folded}
-use Rattle.studio_rules.specs.Expand.{ExpandWork}
-use Rattle.studio_rules.specs.Lines.{text_of}
-use Rattle.studio_rules.specs.Periods.{PeriodsWork}
-use Rattle.studio_rules.specs.Plan.{GivesPlan, OnPlan}
-use Rattle.studio_rules.specs.Reading.{LongFile, OnFile, file_limit}
-use Rattle.studio_rules.specs.Solve.{HasProof, SolveWork}
-use Rattle.studio_rules.specs.declared.status.Status.{Status}
-use Rattle.studio_rules.specs.declared.status.Status.TheVariants.{Done, BadProblem, TooLong}
+use Rattle.studio.specs.text_rules.Fault as texts
+use Rattle.studio.specs.text_rules.Outside.{Told}
+use Rattle.studio.specs.text_rules.Value.{read_text}
+use Rattle.studio.specs.text_laws.Laws.{CanonicalReads}
+use Rattle.studio.specs.problem_rules.Problem.{Problem}
+use Rattle.studio.specs.plan_rules.Expanded.{expanded}
+use Rattle.studio.specs.plan_rules.Plan.{Plan}
+use Rattle.studio.specs.plan_rules.Read as plans
+use Rattle.studio.specs.plan_laws.Laws.{ExpandedIsValid}
+use Rattle.studio.specs.tree_rules.Claim.{Claim, network, infeasible, unknown}
+use Rattle.studio.specs.plan_rules.Folded.{folded}
+use Rattle.studio.specs.studio_rules.Expand.{ExpandWork}
+use Rattle.studio.specs.studio_rules.Lines.{text_of}
+use Rattle.studio.specs.studio_rules.Periods.{PeriodsWork}
+use Rattle.studio.specs.studio_rules.Plan.{GivesPlan, OnPlan}
+use Rattle.studio.specs.studio_rules.Reading.{LongFile, OnFile, file_limit}
+use Rattle.studio.specs.studio_rules.Solve.{HasProof, SolveWork}
+use Rattle.studio.specs.studio_rules.declared.status.Status.{Status}
+use Rattle.studio.specs.studio_rules.declared.status.Status.TheVariants.{Done, BadProblem, TooLong}
 use Rattle.call_laws.specs.Costs.{ClaimSame, OneCost}
 use Rattle.call_laws.specs.Periods.{ReadIsPlan, IsExpanded, ExpandedIsRead, PlansClaim, Certifies}
 use Rattle.call_laws.specs.Periods.{PeriodsAreCertified}
-use Rattle.studio.proofs.Accepted.{is_held, one_problem}
+use Rattle.studio.proofs.Cited.{is_held, one_problem}
 use Rattle.call_laws.proofs.CostLemmas.{solved, on_file}
 
 -- the plan of a call that ends with status 0, and what the call does with it

@@ -4,47 +4,49 @@ use Rattle.std.proofs.Common.{◌≡◌, ℕ, zero, suc, ◌≤◌, Bool, cond, 
 use Rattle.std.proofs.Common.{IfSome, Result, Ok, Err, length, ℤ, ◌*ℤ◌, ◌≤ℤ◌, refl, sym, ap, ◌∙◌}
 use Rattle.std.proofs.Common.{subst, arith, inl, inr}
 use Rattle.std.proofs.lemmas.Int.{ints}
-use Rattle.number_sets.specs.Sets.{has}
-use Rattle.text_rules.specs.Canonical.{canonical_lines}
-use Rattle.text_rules.specs.Fault as texts
-use Rattle.text_rules.specs.Value as values
-use Rattle.text_laws.specs.Laws.{CanonicalReads}
-use Rattle.problem_rules.specs.Problem.{Problem}
-use Rattle.pns_rules.specs.Shape.{Shape}
-use Rattle.pns_rules.specs.Structure.{IsStructure, IsAllowed}
-use Rattle.edit_rules.specs.Edit.{Edit, Script}
-use Rattle.edit_rules.specs.Effect.{effect}
-use Rattle.edit_rules.specs.Fault as faults
-use Rattle.edit_rules.specs.Formed.{script_of}
-use Rattle.edit_rules.specs.Script.{applied, IsFirstFault}
-use Rattle.edit_laws.specs.ScriptLaws.{PrintedScriptsRead}
-use Rattle.edit_rules.specs.ScriptFault as scripts
-use Rattle.edit_rules.specs.Printed.{script_text}
-use Rattle.edit_rules.specs.Read.{read_script}
-use Rattle.tree_rules.specs.Claim.{Network, Claim, network, infeasible, unknown, CostOver, size_in}
-use Rattle.tree_rules.specs.Claim.{claimed_cost, IsAtLeast, IsFeasible}
-use Rattle.report_rules.specs.declared.spot.Spot.{Spot}
-use Rattle.report_rules.specs.declared.spot.SpotKind.{SpotKind}
-use Rattle.report_rules.specs.declared.side.Side.{Side}
-use Rattle.report_rules.specs.declared.side.Side.TheVariants.{Below, Above}
-use Rattle.report_rules.specs.Spot.{valued, IsAllowedValue}
-use Rattle.report_rules.specs.Range.{IsLeast, repriced, EndsAt, IsRange, beyond}
-use Rattle.stability_laws.specs.Laws.{ValuedIsValid}
-use Rattle.stability_laws.proofs.NetLemmas.{shape_stays, flows_to}
-use Rattle.studio_rules.specs.Edits.{EditWork}
-use Rattle.studio_rules.specs.Lines.{text_of}
-use Rattle.studio_rules.specs.Reading.{GivesProblem, file_limit}
-use Rattle.studio_rules.specs.Script.{ScriptFault, ScriptSays}
-use Rattle.studio_rules.specs.Solve.{HasProof, SolveWork}
-use Rattle.studio_rules.specs.Stable.{spot_named, NamedWork, StableWork}
-use Rattle.studio_rules.specs.HeadedFile.{AnyHead, OnHeaded}
-use Rattle.studio_rules.specs.declared.status.Status.{Status}
-use Rattle.studio_rules.specs.declared.status.Status.TheVariants.{Done, BadClaim}
-use Rattle.studio_rules.specs.declared.status.Status.TheVariants.{BadEdit, TooLong, UnknownName}
+use Rattle.studio.specs.number_sets.Sets.{has}
+use Rattle.studio.specs.text_rules.Canonical.{canonical_lines}
+use Rattle.studio.specs.text_rules.Fault as texts
+use Rattle.studio.specs.text_rules.Value as values
+use Rattle.studio.specs.text_laws.Laws.{CanonicalReads}
+use Rattle.studio.specs.problem_rules.Problem.{Problem}
+use Rattle.studio.specs.pns_rules.Shape.{Shape}
+use Rattle.studio.specs.pns_rules.Structure.{IsStructure, IsAllowed}
+use Rattle.studio.specs.edit_rules.Edit.{Edit, Script}
+use Rattle.studio.specs.edit_rules.Effect.{effect}
+use Rattle.studio.specs.edit_rules.Fault as faults
+use Rattle.studio.specs.edit_rules.Formed.{script_of}
+use Rattle.studio.specs.edit_rules.Script.{applied, IsFirstFault}
+use Rattle.studio.specs.edit_laws.ScriptLaws.{PrintedScriptsRead}
+use Rattle.studio.specs.edit_rules.ScriptFault as scripts
+use Rattle.studio.specs.edit_rules.Printed.{script_text}
+use Rattle.studio.specs.edit_rules.Read.{read_script}
+use Rattle.studio.specs.tree_rules.Claim.{Network, Claim, network, infeasible, unknown, CostOver}
+use Rattle.studio.specs.tree_rules.Claim.{size_in}
+use Rattle.studio.specs.tree_rules.Claim.{claimed_cost, IsAtLeast, IsFeasible}
+use Rattle.studio.specs.report_rules.declared.spot.Spot.{Spot}
+use Rattle.studio.specs.report_rules.declared.spot.SpotKind.{SpotKind}
+use Rattle.studio.specs.report_rules.declared.side.Side.{Side}
+use Rattle.studio.specs.report_rules.declared.side.Side.TheVariants.{Below, Above}
+use Rattle.studio.specs.report_rules.Spot.{valued, IsAllowedValue}
+use Rattle.studio.specs.report_rules.Range.{IsLeast, repriced, EndsAt, IsRange, beyond}
+use Rattle.studio.specs.stability_laws.Laws.{ValuedIsValid}
+use Rattle.studio.proofs.stability_laws.Cited.{shape_stays, flows_to}
+use Rattle.studio.specs.studio_rules.Edits.{EditWork}
+use Rattle.studio.specs.studio_rules.Lines.{text_of}
+use Rattle.studio.specs.studio_rules.Reading.{GivesProblem, file_limit}
+use Rattle.studio.specs.studio_rules.Script.{ScriptFault, ScriptSays}
+use Rattle.studio.specs.studio_rules.Solve.{HasProof, SolveWork}
+use Rattle.studio.specs.studio_rules.Stable.{spot_named, NamedWork, StableWork}
+use Rattle.studio.specs.studio_rules.HeadedFile.{AnyHead, OnHeaded}
+use Rattle.studio.specs.studio_rules.declared.status.Status.{Status}
+use Rattle.studio.specs.studio_rules.declared.status.Status.TheVariants.{Done, BadClaim}
+use Rattle.studio.specs.studio_rules.declared.status.Status.TheVariants.{BadEdit, TooLong}
+use Rattle.studio.specs.studio_rules.declared.status.Status.TheVariants.{UnknownName}
 use Rattle.call_laws.specs.Costs.{cost_of, ClaimsCost, PrintsClaim, PrintsCost}
 use Rattle.call_laws.specs.Ranges.{setting, SettingsSetSpots, ValuesAreEdited, BestIsClaimed}
 use Rattle.call_laws.specs.Ranges.{EditedCosts, RangeIsSolved, RangesAreSolved}
-use Rattle.studio.proofs.Accepted.{is_held, no_fault, one_problem}
+use Rattle.studio.proofs.Cited.{is_held, no_fault, one_problem}
 use Rattle.call_laws.proofs.CostLemmas.{antisym, IsBest, is_best, claims_no_more, solved, on_file}
 use Rattle.call_laws.proofs.SpotLemmas.{spot_known}
 use Rattle.call_laws.proofs.ScriptLengths.{script-le}

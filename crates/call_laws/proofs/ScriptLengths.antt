@@ -6,13 +6,13 @@ use Rattle.std.proofs.lemmas.Bool.{cond_both}
 use Rattle.std.proofs.lemmas.Bool.Decides.{nat_tests}
 use Rattle.std.proofs.lemmas.Fmt.{length-decimal-le}
 use Rattle.std.proofs.lemmas.List.{length-append}
-use Rattle.text_rules.specs.Printed.{digits, places, amount_bytes}
-use Rattle.problem_rules.specs.WellFormed.{IsInRange}
-use Rattle.edit_rules.specs.Formed.{IsName, IsFormed}
-use Rattle.edit_rules.specs.Printed.{edit_line, script_text}
-use Rattle.report_rules.specs.declared.spot.SpotKind.{SpotKind}
-use Rattle.report_rules.specs.declared.spot.SpotKind.TheVariants.{Price, Fix, Proportional}
-use Rattle.studio_rules.specs.Reading.{file_limit}
+use Rattle.studio.specs.text_rules.Printed.{digits, places, amount_bytes}
+use Rattle.studio.specs.problem_rules.WellFormed.{IsInRange}
+use Rattle.studio.specs.edit_rules.Formed.{IsName, IsFormed}
+use Rattle.studio.specs.edit_rules.Printed.{edit_line, script_text}
+use Rattle.studio.specs.report_rules.declared.spot.SpotKind.{SpotKind}
+use Rattle.studio.specs.report_rules.declared.spot.SpotKind.TheVariants.{Price, Fix, Proportional}
+use Rattle.studio.specs.studio_rules.Reading.{file_limit}
 use Rattle.call_laws.specs.Ranges.{setting}
 
 digits-length : (k n : ℕ) → length (digits k n) ≡ k

@@ -1,14 +1,15 @@
 -- A call over a shelf in memory with the plant of one unit.
 use Rattle.std.proofs.Common.{◌≡◌, ◌∷◌, [], List, ℕ, Some, codes, inl, refl, ap, ◌∙◌}
-use Rattle.text_rules.specs.State.{ShelfState, OutputsState}
-use Rattle.pns_io.specs.MemoryShelf.{Shelved}
-use Rattle.pns_io.specs.NamedFiles.{file_of}
-use Rattle.studio_rules.specs.Answers.{WordsSay}
-use Rattle.studio_rules.specs.Command.{Solving, command_of}
-use Rattle.studio_rules.specs.Ending.{Finishes, IsOneOf}
-use Rattle.studio_rules.specs.declared.status.Status.{Status}
-use Rattle.studio_rules.specs.declared.status.Status.TheVariants.{Done, ReadFault, WriteFault}
-use Rattle.studio_rules.specs.declared.status.Status.TheVariants.{Memory}
+use Rattle.studio.specs.text_rules.State.{ShelfState, OutputsState}
+use Rattle.studio.specs.pns_io.MemoryShelf.{Shelved}
+use Rattle.studio.specs.pns_io.NamedFiles.{file_of}
+use Rattle.studio.specs.studio_rules.Answers.{WordsSay}
+use Rattle.studio.specs.studio_rules.Command.{Solving, command_of}
+use Rattle.studio.specs.studio_rules.Ending.{Finishes, IsOneOf}
+use Rattle.studio.specs.studio_rules.declared.status.Status.{Status}
+use Rattle.studio.specs.studio_rules.declared.status.Status.TheVariants.{Done, ReadFault}
+use Rattle.studio.specs.studio_rules.declared.status.Status.TheVariants.{WriteFault}
+use Rattle.studio.specs.studio_rules.declared.status.Status.TheVariants.{Memory}
 use Rattle.call_laws.specs.Calls.{SureCallIsDone}
 use Rattle.call_laws.specs.OneUnit.{one_unit_text, OneUnitIsSure}
 

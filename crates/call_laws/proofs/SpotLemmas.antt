@@ -9,23 +9,21 @@ use Rattle.std.proofs.lemmas.Int.{ints}
 use Rattle.std.proofs.lemmas.Bool.Decides.{nat_tests}
 use Rattle.std.proofs.lemmas.List.{length-map}
 use Rattle.std.proofs.lemmas.List.Quantifiers.{position-Some}
-use Rattle.problem_rules.specs.Problem.{Problem, Material, OperatingUnit, material_names}
-use Rattle.problem_rules.specs.Problem.{unit_names, no_material, no_unit}
-use Rattle.problem_rules.specs.Names.{is_among}
-use Rattle.problem_rules.specs.Validity.{IsValid}
-use Rattle.problem_rules.specs.WellFormed.{IsInRange, IsBound}
-use Rattle.edit_rules.specs.Formed.{IsName}
-use Rattle.edit_rules.specs.Place.{place_of}
-use Rattle.edit_laws.proofs.ListLemmas.{Each-at, map-at}
-use Rattle.edit_laws.proofs.NameLemmas.{bytes_same, knows-at}
-use Rattle.edit_laws.proofs.Goodness.{IsGoodMaterial, IsGoodUnit}
-use Rattle.edit_laws.proofs.ValidLemmas.{well_from_valid}
-use Rattle.report_rules.specs.declared.spot.Spot.{Spot}
-use Rattle.report_rules.specs.declared.spot.Spot.TheVariants as spots
-use Rattle.report_rules.specs.declared.spot.SpotKind.{SpotKind}
-use Rattle.report_rules.specs.declared.spot.SpotKind.TheVariants.{Price, Fix, Proportional}
-use Rattle.report_rules.specs.Spot.{KnowsSpot, valued, IsAllowedValue}
-use Rattle.studio_rules.specs.Stable.{spot_named}
+use Rattle.studio.specs.problem_rules.Problem.{Problem, Material, OperatingUnit, material_names}
+use Rattle.studio.specs.problem_rules.Problem.{unit_names, no_material, no_unit}
+use Rattle.studio.specs.problem_rules.Names.{is_among}
+use Rattle.studio.specs.problem_rules.Validity.{IsValid}
+use Rattle.studio.specs.problem_rules.WellFormed.{IsInRange, IsBound}
+use Rattle.studio.specs.edit_rules.Formed.{IsName}
+use Rattle.studio.specs.edit_rules.Place.{place_of}
+use Rattle.studio.proofs.edit_laws.Cited.{Each-at, map-at, bytes_same, knows-at, IsGoodMaterial}
+use Rattle.studio.proofs.edit_laws.Cited.{IsGoodUnit, well_from_valid}
+use Rattle.studio.specs.report_rules.declared.spot.Spot.{Spot}
+use Rattle.studio.specs.report_rules.declared.spot.Spot.TheVariants as spots
+use Rattle.studio.specs.report_rules.declared.spot.SpotKind.{SpotKind}
+use Rattle.studio.specs.report_rules.declared.spot.SpotKind.TheVariants.{Price, Fix, Proportional}
+use Rattle.studio.specs.report_rules.Spot.{KnowsSpot, valued, IsAllowedValue}
+use Rattle.studio.specs.studio_rules.Stable.{spot_named}
 use Rattle.call_laws.specs.Ranges.{SettingsSetSpots}
 
 -- ---- the place of a name

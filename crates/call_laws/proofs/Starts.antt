@@ -3,26 +3,26 @@ use Rattle.std.proofs.Common.{◌≡◌, ◌≤◌, ◌<◌, ◌+◌, ◌&&◌, 
 use Rattle.std.proofs.Common.{List, codes, decimal, nat_lt, cond, suc, length, get_or}
 use Rattle.std.proofs.Common.{refl, sym, ap, subst, ◌∙◌, arith, inl, inr, lt-ltb}
 use Rattle.std.proofs.lemmas.Bool.{and_from}
-use Rattle.number_sets.specs.Sets.{has, listed, IsSet}
-use Rattle.number_sets.proofs.SetLemmas.{has-listed, IsSet-listed, AreBelow-higher}
-use Rattle.problem_rules.specs.Each.{Each}
-use Rattle.problem_rules.specs.Problem.{Problem}
-use Rattle.pns_rules.specs.Shape.{IsProper, shape_of}
-use Rattle.pns_rules.specs.Nodes.{Node}
-use Rattle.pns_rules.specs.Tokens.{digit, AreDigits, token_of}
-use Rattle.tree_rules.specs.Tree.{leaf}
-use Rattle.tree_rules.specs.Leaf.{untried, LeafPasses}
-use Rattle.tree_rules.specs.Claim.{Claim, claimed_cost}
-use Rattle.tree_rules.specs.Accepted.{Tree, first_node, IsPartial}
-use Rattle.tree_rules.specs.Known as trees
-use Rattle.tree_text_rules.specs.OpenLeaves.{OpenAt, open_leaves, IsAmong, StandsOpen}
-use Rattle.tree_parts.specs.Laws.{OpenLeavesStand}
-use Rattle.studio_rules.specs.Lines.{text_of}
-use Rattle.studio_rules.specs.Split.{token_in, split_lines}
-use Rattle.studio_rules.specs.Start.{IsStart}
-use Rattle.studio.proofs.Calls.{same_cut}
+use Rattle.studio.specs.number_sets.Sets.{has, listed, IsSet}
+use Rattle.studio.proofs.number_sets.Cited.{has-listed, IsSet-listed, AreBelow-higher}
+use Rattle.studio.specs.problem_rules.Each.{Each}
+use Rattle.studio.specs.problem_rules.Problem.{Problem}
+use Rattle.studio.specs.pns_rules.Shape.{IsProper, shape_of}
+use Rattle.studio.specs.pns_rules.Nodes.{Node}
+use Rattle.studio.specs.pns_rules.Tokens.{digit, AreDigits, token_of}
+use Rattle.studio.specs.tree_rules.Tree.{leaf}
+use Rattle.studio.specs.tree_rules.Leaf.{untried, LeafPasses}
+use Rattle.studio.specs.tree_rules.Claim.{Claim, claimed_cost}
+use Rattle.studio.specs.tree_rules.Accepted.{Tree, first_node, IsPartial}
+use Rattle.studio.specs.tree_rules.Known as trees
+use Rattle.studio.specs.tree_text_rules.OpenLeaves.{OpenAt, open_leaves, IsAmong, StandsOpen}
+use Rattle.studio.specs.tree_parts.Laws.{OpenLeavesStand}
+use Rattle.studio.specs.studio_rules.Lines.{text_of}
+use Rattle.studio.specs.studio_rules.Split.{token_in, split_lines}
+use Rattle.studio.specs.studio_rules.Start.{IsStart}
+use Rattle.studio.proofs.Cited.{same_cut}
 use Rattle.call_laws.specs.Parts.{leaf_line}
-use Rattle.structure_list.proofs.TokenLemmas.{token_one, token_has_form}
+use Rattle.studio.proofs.structure_list.Cited.{token_one, token_has_form}
 use Rattle.call_laws.proofs.Nodes.{AreUnits, stands_small}
 use Rattle.call_laws.proofs.Lines.{IsOneLine, IsLineOf, one_line-append, decimal_one_line}
 use Rattle.call_laws.proofs.Lines.{line_among}

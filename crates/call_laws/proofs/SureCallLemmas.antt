@@ -1,26 +1,28 @@
 -- Calls that search a plant without demands end with their whole answer.
 use Rattle.std.proofs.Common.{◌≡◌, ℕ, List, [], ◌∷◌, Result, Ok, Err, inl, inr, refl, sym, ◌∙◌}
 use Rattle.std.proofs.Common.{subst, arith}
-use Rattle.problem_rules.specs.Problem.{Problem}
-use Rattle.text_rules.specs.Fault.{Fault}
-use Rattle.text_rules.specs.Outside.{Told}
-use Rattle.text_rules.specs.Value.{read_text}
-use Rattle.text_rules.specs.State.{ShelfState, OutputsState}
-use Rattle.tree_rules.specs.Claim.{Claim}
-use Rattle.tree_rules.specs.Accepted.{Tree}
-use Rattle.tree_rules.specs.Tail.{Tail, whole, spent, past}
-use Rattle.rank_rules.specs.Text.{Text}
-use Rattle.studio_rules.specs.Command.{command_of, IsFileWord}
-use Rattle.studio_rules.specs.Reading.{AreHeld, FileFault, GivesProblem, OnFile}
-use Rattle.studio_rules.specs.Ending.{Finishes, Says, IsOneOf}
-use Rattle.studio_rules.specs.Answers.{AnswersTo}
-use Rattle.studio_rules.specs.Solve as solving
-use Rattle.studio_rules.specs.Solve.{SolveWork, CanFinish, status_of}
-use Rattle.studio_rules.specs.Rank as ranking
-use Rattle.studio_rules.specs.Rank.{RankWork}
-use Rattle.studio_rules.specs.declared.status.Status.{Status}
-use Rattle.studio_rules.specs.declared.status.Status.TheVariants.{Done, BadProblem, ReadFault}
-use Rattle.studio_rules.specs.declared.status.Status.TheVariants.{WriteFault, Memory, TooLong}
+use Rattle.studio.specs.problem_rules.Problem.{Problem}
+use Rattle.studio.specs.text_rules.Fault.{Fault}
+use Rattle.studio.specs.text_rules.Outside.{Told}
+use Rattle.studio.specs.text_rules.Value.{read_text}
+use Rattle.studio.specs.text_rules.State.{ShelfState, OutputsState}
+use Rattle.studio.specs.tree_rules.Claim.{Claim}
+use Rattle.studio.specs.tree_rules.Accepted.{Tree}
+use Rattle.studio.specs.tree_rules.Tail.{Tail, whole, spent, past}
+use Rattle.studio.specs.rank_rules.Text.{Text}
+use Rattle.studio.specs.studio_rules.Command.{command_of, IsFileWord}
+use Rattle.studio.specs.studio_rules.Reading.{AreHeld, FileFault, GivesProblem, OnFile}
+use Rattle.studio.specs.studio_rules.Ending.{Finishes, Says, IsOneOf}
+use Rattle.studio.specs.studio_rules.Answers.{AnswersTo}
+use Rattle.studio.specs.studio_rules.Solve as solving
+use Rattle.studio.specs.studio_rules.Solve.{SolveWork, CanFinish, status_of}
+use Rattle.studio.specs.studio_rules.Rank as ranking
+use Rattle.studio.specs.studio_rules.Rank.{RankWork}
+use Rattle.studio.specs.studio_rules.declared.status.Status.{Status}
+use Rattle.studio.specs.studio_rules.declared.status.Status.TheVariants.{Done, BadProblem}
+use Rattle.studio.specs.studio_rules.declared.status.Status.TheVariants.{ReadFault}
+use Rattle.studio.specs.studio_rules.declared.status.Status.TheVariants.{WriteFault, Memory}
+use Rattle.studio.specs.studio_rules.declared.status.Status.TheVariants.{TooLong}
 use Rattle.call_laws.specs.Calls.{IsSure, SureSearchCanFinish, SureCallIsDone}
 use Rattle.call_laws.proofs.NoDemandsLemmas.{nothing_stops}
 

@@ -8,26 +8,34 @@ use Rattle.std.proofs.lemmas.List.{length-append, length-map}
 use Rattle.std.proofs.lemmas.Grind.{flat_map-append}
 use Rattle.std.proofs.lemmas.Fmt.{length-decimal-le}
 use Rattle.std.proofs.Math.Nat.{mul-suc}
-use Rattle.number_sets.specs.Sets.{has, with_number, IsRising, AreBelow}
-use Rattle.number_sets.proofs.SetLemmas.{has-with_number, IsRising-with_number, length-with_number}
-use Rattle.number_sets.proofs.SetLemmas.{length_below, below_from, has_below}
-use Rattle.problem_rules.specs.Each.{Each}
-use Rattle.problem_rules.specs.Names.{is_name}
-use Rattle.problem_rules.specs.Problem.{Problem, Kind, raw_material, intermediate, product}
-use Rattle.problem_rules.specs.Problem.{Material, Term, OperatingUnit, Exclusion, material_names}
-use Rattle.problem_rules.specs.Problem.{unit_names, terms_have}
-use Rattle.problem_rules.specs.Validity.{repeats_material, shares_material}
-use Rattle.problem_rules.specs.WellFormed.{IsWellFormed, IsWellFormedMaterial, IsWellFormedTerm}
-use Rattle.problem_rules.specs.WellFormed.{IsWellFormedUnit, IsWellFormedExclusion, AreRisingFrom}
-use Rattle.problem_rules.specs.WellFormed.{IsInRange, ValidIsWellFormed}
-use Rattle.problem_rules.proofs.TermLemmas.{known_material}
-use Rattle.text_rules.specs.Printed.{digits, places, amount_bytes}
-use Rattle.text_rules.specs.Canonical.{joined, spaced, item_line, field, kind_word, material_items}
-use Rattle.text_rules.specs.Canonical.{is_zero, field_unless_zero, unit_items, name_at, term_tokens}
-use Rattle.text_rules.specs.Canonical.{side_tokens, rates_tokens, named, token_text, section_lines}
-use Rattle.text_rules.specs.Canonical.{material_lines, unit_lines, rates_lines, exclusion_lines}
-use Rattle.text_rules.specs.Canonical.{payout_lines, exclusion_section, canonical}
-use Rattle.text_laws.proofs.Each.{each-to}
+use Rattle.studio.specs.number_sets.Sets.{has, with_number, IsRising, AreBelow}
+use Rattle.studio.proofs.number_sets.Cited.{has-with_number, IsRising-with_number}
+use Rattle.studio.proofs.number_sets.Cited.{length-with_number}
+use Rattle.studio.proofs.number_sets.Cited.{length_below, below_from, has_below}
+use Rattle.studio.specs.problem_rules.Each.{Each}
+use Rattle.studio.specs.problem_rules.Names.{is_name}
+use Rattle.studio.specs.problem_rules.Problem.{Problem, Kind, raw_material, intermediate, product}
+use Rattle.studio.specs.problem_rules.Problem.{Material, Term, OperatingUnit, Exclusion}
+use Rattle.studio.specs.problem_rules.Problem.{material_names}
+use Rattle.studio.specs.problem_rules.Problem.{unit_names, terms_have}
+use Rattle.studio.specs.problem_rules.Validity.{repeats_material, shares_material}
+use Rattle.studio.specs.problem_rules.WellFormed.{IsWellFormed, IsWellFormedMaterial}
+use Rattle.studio.specs.problem_rules.WellFormed.{IsWellFormedTerm}
+use Rattle.studio.specs.problem_rules.WellFormed.{IsWellFormedUnit, IsWellFormedExclusion}
+use Rattle.studio.specs.problem_rules.WellFormed.{AreRisingFrom}
+use Rattle.studio.specs.problem_rules.WellFormed.{IsInRange, ValidIsWellFormed}
+use Rattle.studio.proofs.problem_rules.Cited.{known_material}
+use Rattle.studio.specs.text_rules.Printed.{digits, places, amount_bytes}
+use Rattle.studio.specs.text_rules.Canonical.{joined, spaced, item_line, field, kind_word}
+use Rattle.studio.specs.text_rules.Canonical.{material_items}
+use Rattle.studio.specs.text_rules.Canonical.{is_zero, field_unless_zero, unit_items, name_at}
+use Rattle.studio.specs.text_rules.Canonical.{term_tokens}
+use Rattle.studio.specs.text_rules.Canonical.{side_tokens, rates_tokens, named, token_text}
+use Rattle.studio.specs.text_rules.Canonical.{section_lines}
+use Rattle.studio.specs.text_rules.Canonical.{material_lines, unit_lines, rates_lines}
+use Rattle.studio.specs.text_rules.Canonical.{exclusion_lines}
+use Rattle.studio.specs.text_rules.Canonical.{payout_lines, exclusion_section, canonical}
+use Rattle.studio.proofs.text_laws.Cited.{each-to}
 use Rattle.call_laws.specs.TextLaws.{CanonicalIsShort}
 
 -- ---- lines and tokens

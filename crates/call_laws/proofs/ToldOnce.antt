@@ -6,13 +6,12 @@ use Rattle.std.specs.Fmt.{signed_decimal}
 use Rattle.std.specs.List.{list_any, list_all}
 use Rattle.std.specs.Char.{is_ascii_digit}
 use Rattle.std.proofs.lemmas.Bool.{or_parts, true≢false}
-use Rattle.integer_laws.specs.Range.{InRange}
-use Rattle.text_rules.specs.Amount.{number_from}
-use Rattle.text_rules.specs.Canonical.{joined}
-use Rattle.text_laws.proofs.Cuts.{not_mark, none_from_all}
-use Rattle.text_laws.proofs.Digits.{decimal_printed}
-use Rattle.tree_text_rules.specs.Line.{is_space, word_text}
-use Rattle.tree_text_rules.specs.declared.Word.TheVariants as words
+use Rattle.studio.specs.integer_laws.Range.{InRange}
+use Rattle.studio.specs.text_rules.Amount.{number_from}
+use Rattle.studio.specs.text_rules.Canonical.{joined}
+use Rattle.studio.proofs.text_laws.Cited.{not_mark, none_from_all, decimal_printed}
+use Rattle.studio.specs.tree_text_rules.Line.{is_space, word_text}
+use Rattle.studio.specs.tree_text_rules.declared.Word.TheVariants as words
 use Rattle.call_laws.specs.OptimumLaws.{OneCostIsTold}
 use Rattle.call_laws.proofs.UnitNames.{IsSolid}
 

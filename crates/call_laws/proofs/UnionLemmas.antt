@@ -6,19 +6,19 @@ use Rattle.std.specs.Prelude.{nat_lt}
 use Rattle.std.proofs.Math.Path.{fun_ext}
 use Rattle.std.proofs.Math.Nat.{pow-le-pow_right}
 use Rattle.std.proofs.lemmas.Bool.{or_cases, or_left, or_right, and_parts, and_from, lt-ltb}
-use Rattle.number_sets.specs.Sets.{has, listed, Avoids}
-use Rattle.number_sets.specs.Options.{IsIn}
-use Rattle.number_sets.proofs.SetLemmas.{same_tests, has-listed, IsRising-listed, length_listed}
-use Rattle.problem_rules.specs.Problem.{Problem}
-use Rattle.problem_rules.specs.Validity.{IsValid}
-use Rattle.pns_rules.specs.Shape.{Shape, IsProper, shape_of}
-use Rattle.pns_rules.specs.Structure.{is_made, is_used, mats, IsPath, Meets, IsStructure, IsAllowed}
-use Rattle.pns_rules.specs.Structure.{IsUnion}
-use Rattle.pns_rules.proofs.ProperLemmas.{proper_if_valid}
-use Rattle.pns_rules.proofs.StructureLemmas.{is_made-from, is_used-from, is_made-some, is_used-some}
-use Rattle.pns_rules.proofs.StructureLemmas.{mats-within}
-use Rattle.pns_rules.proofs.StructureList.{structures_of, is_structure_in, structure_is_in}
-use Rattle.tree_rules.specs.Proved.{IsBelowLimit}
+use Rattle.studio.specs.number_sets.Sets.{has, listed, Avoids}
+use Rattle.studio.specs.number_sets.Options.{IsIn}
+use Rattle.studio.proofs.number_sets.Cited.{same_tests, has-listed, IsRising-listed, length_listed}
+use Rattle.studio.specs.problem_rules.Problem.{Problem}
+use Rattle.studio.specs.problem_rules.Validity.{IsValid}
+use Rattle.studio.specs.pns_rules.Shape.{Shape, IsProper, shape_of}
+use Rattle.studio.specs.pns_rules.Structure.{is_made, is_used, mats, IsPath, Meets, IsStructure}
+use Rattle.studio.specs.pns_rules.Structure.{IsAllowed}
+use Rattle.studio.specs.pns_rules.Structure.{IsUnion}
+use Rattle.studio.proofs.pns_rules.Cited.{proper_if_valid, is_made-from, is_used-from, is_made-some}
+use Rattle.studio.proofs.pns_rules.Cited.{is_used-some, mats-within, structures_of, is_structure_in}
+use Rattle.studio.proofs.pns_rules.Cited.{structure_is_in}
+use Rattle.studio.specs.tree_rules.Proved.{IsBelowLimit}
 
 -- whether some set of a list has the number
 pub in_some : List (List ℕ) → ℕ → Bool

@@ -8,19 +8,18 @@ use Rattle.std.specs.List.{list_any, list_all, position_or_len}
 use Rattle.std.proofs.lemmas.Bool.{eqb-false, cond-true, cond-false, or_parts, or_left}
 use Rattle.std.proofs.lemmas.Bool.{and_parts}
 use Rattle.std.proofs.lemmas.List.{length-map, get_or-map}
-use Rattle.number_sets.specs.Sets.{has, IsSet, IsRising, IsBelowAll, AreBelow}
-use Rattle.number_sets.proofs.SetLemmas.{same_sets, below_not_had}
-use Rattle.problem_rules.specs.Each.{Each}
-use Rattle.problem_rules.specs.Names.{is_name, is_among, has_double, continues_name}
-use Rattle.problem_rules.specs.Problem.{Problem, OperatingUnit, unit_names, no_unit}
-use Rattle.problem_rules.specs.WellFormed.{IsWellFormed, IsWellFormedUnit}
-use Rattle.problem_rules.proofs.ItemLemmas.{Each-at}
-use Rattle.text_laws.proofs.Cuts.{not_mark, none_from_all}
-use Rattle.text_laws.proofs.Names.{bytes_same, bytes_differ}
-use Rattle.tree_text_rules.specs.Line.{is_space}
-use Rattle.tree_text_rules.specs.Spelling.{unit_name}
-use Rattle.studio_rules.specs.Lines.{names_in}
-use Rattle.studio_rules.specs.Axioms.{number_of, is_unit, units_named}
+use Rattle.studio.specs.number_sets.Sets.{has, IsSet, IsRising, IsBelowAll, AreBelow}
+use Rattle.studio.proofs.number_sets.Cited.{same_sets, below_not_had}
+use Rattle.studio.specs.problem_rules.Each.{Each}
+use Rattle.studio.specs.problem_rules.Names.{is_name, is_among, has_double, continues_name}
+use Rattle.studio.specs.problem_rules.Problem.{Problem, OperatingUnit, unit_names, no_unit}
+use Rattle.studio.specs.problem_rules.WellFormed.{IsWellFormed, IsWellFormedUnit}
+use Rattle.studio.proofs.problem_rules.Cited.{Each-at}
+use Rattle.studio.proofs.text_laws.Cited.{not_mark, none_from_all, bytes_same, bytes_differ}
+use Rattle.studio.specs.tree_text_rules.Line.{is_space}
+use Rattle.studio.specs.tree_text_rules.Spelling.{unit_name}
+use Rattle.studio.specs.studio_rules.Lines.{names_in}
+use Rattle.studio.specs.studio_rules.Axioms.{number_of, is_unit, units_named}
 
 -- ---- in file order
 

@@ -8,20 +8,19 @@ use Rattle.std.specs.List.{AllByRecursion, range_with_len}
 use Rattle.std.proofs.lemmas.Int.{ints}
 use Rattle.std.proofs.lemmas.List.Elements.{All-get_or}
 use Rattle.std.proofs.Math.Nat.{eq-one_of_dvd-one}
-use Rattle.integer_laws.specs.Range.{InRange}
-use Rattle.integer_laws.specs.Reduced.{scaled}
-use Rattle.integer_laws.proofs.Coprime.{one_divides}
-use Rattle.integer_laws.proofs.Ring.{V, ◌⊗◌, ring}
-use Rattle.flow_rules.specs.Net.{beside}
-use Rattle.flow_rules.specs.Steps.{AreInRange}
-use Rattle.flow_rules.proofs.LeadingLemmas.{not_both}
-use Rattle.flow_rules.specs.LinearProgram.{LinearProgram}
-use Rattle.flow_rules.specs.Columns.{start, t_at, w_at, scale_at}
-use Rattle.flow_rules.specs.Start.{IsStart}
-use Rattle.flow_rules.specs.Multipliers.{multiplier, multipliers, AreMultipliers}
-use Rattle.flow_rules.specs.ReadFlows.{IsLcm, AreValues, FlowStep, Lcm, Shift, Scaled, Total}
-use Rattle.flow_rules.specs.ReadFlows.{size_above, size, formed, Formed, lcms, sizes, rounds}
-use Rattle.flow_rules.specs.ReadFlows.{numbers, AreRead, IsPastFlow}
+use Rattle.studio.specs.integer_laws.Range.{InRange}
+use Rattle.studio.specs.integer_laws.Reduced.{scaled}
+use Rattle.studio.proofs.integer_laws.Cited.{one_divides, V, ◌⊗◌, ring}
+use Rattle.studio.specs.flow_rules.Net.{beside}
+use Rattle.studio.specs.flow_rules.Steps.{AreInRange}
+use Rattle.studio.proofs.flow_rules.Cited.{not_both}
+use Rattle.studio.specs.flow_rules.LinearProgram.{LinearProgram}
+use Rattle.studio.specs.flow_rules.Columns.{start, t_at, w_at, scale_at}
+use Rattle.studio.specs.flow_rules.Start.{IsStart}
+use Rattle.studio.specs.flow_rules.Multipliers.{multiplier, multipliers, AreMultipliers}
+use Rattle.studio.specs.flow_rules.ReadFlows.{IsLcm, AreValues, FlowStep, Lcm, Shift, Scaled, Total}
+use Rattle.studio.specs.flow_rules.ReadFlows.{size_above, size, formed, Formed, lcms, sizes, rounds}
+use Rattle.studio.specs.flow_rules.ReadFlows.{numbers, AreRead, IsPastFlow}
 use Rattle.call_laws.proofs.FirstBasis.{no_x, scale_one, no_cost}
 
 -- all numbers of a list are 0

@@ -6,23 +6,21 @@ use Rattle.std.specs.Prelude.{ℤ, pos, ◌+ℤ◌, ◌-ℤ◌, ◌*ℤ◌, ◌�
 use Rattle.std.specs.List.{AllByRecursion}
 use Rattle.std.specs.Int.{int_min}
 use Rattle.std.proofs.lemmas.Int.{ints, clamps}
-use Rattle.integer_laws.specs.Range.{InRange}
-use Rattle.integer_laws.specs.Total.{total}
-use Rattle.integer_laws.proofs.Order.{mul_nonneg}
-use Rattle.integer_laws.proofs.Ring.{ring_z}
-use Rattle.integer_laws.proofs.Totals.{total-same, total-constant_zero}
-use Rattle.pns_rules.specs.Nodes.{Node}
-use Rattle.flow_rules.specs.Net.{Net, trillion, size_cost, units_of, materials_of}
-use Rattle.flow_rules.specs.Relaxed.{units, rows, row_low, row_high, unit_low, unit_cost}
-use Rattle.flow_rules.specs.Relaxed.{fixed_cost, reduced_cost, row_part, unit_part}
-use Rattle.flow_rules.specs.Steps.{AreInRange}
-use Rattle.flow_rules.specs.BoundSteps.{rows_steps, rows_at, reduced_steps, units_steps}
-use Rattle.flow_rules.specs.BoundSteps.{bound_steps}
-use Rattle.flow_rules.specs.CostSteps.{cost_steps_from, cost_steps}
-use Rattle.flow_rules.specs.FeasibleSteps.{units_at, balance_steps, materials_steps}
-use Rattle.flow_rules.specs.FeasibleSteps.{feasible_steps}
-use Rattle.flow_rules.specs.Program.{IsWithin}
-use Rattle.flow_rules.proofs.LeadingLemmas.{AreInRange-append}
+use Rattle.studio.specs.integer_laws.Range.{InRange}
+use Rattle.studio.specs.integer_laws.Total.{total}
+use Rattle.studio.proofs.integer_laws.Cited.{mul_nonneg, ring_z, total-same, total-constant_zero}
+use Rattle.studio.specs.pns_rules.Nodes.{Node}
+use Rattle.studio.specs.flow_rules.Net.{Net, trillion, size_cost, units_of, materials_of}
+use Rattle.studio.specs.flow_rules.Relaxed.{units, rows, row_low, row_high, unit_low, unit_cost}
+use Rattle.studio.specs.flow_rules.Relaxed.{fixed_cost, reduced_cost, row_part, unit_part}
+use Rattle.studio.specs.flow_rules.Steps.{AreInRange}
+use Rattle.studio.specs.flow_rules.BoundSteps.{rows_steps, rows_at, reduced_steps, units_steps}
+use Rattle.studio.specs.flow_rules.BoundSteps.{bound_steps}
+use Rattle.studio.specs.flow_rules.CostSteps.{cost_steps_from, cost_steps}
+use Rattle.studio.specs.flow_rules.FeasibleSteps.{units_at, balance_steps, materials_steps}
+use Rattle.studio.specs.flow_rules.FeasibleSteps.{feasible_steps}
+use Rattle.studio.specs.flow_rules.Program.{IsWithin}
+use Rattle.studio.proofs.flow_rules.Cited.{AreInRange-append}
 use Rattle.call_laws.proofs.ZeroSizes.{zero_in_range}
 
 abbrev limit : ℤ

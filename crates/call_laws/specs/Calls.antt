@@ -1,16 +1,17 @@
 -- Laws over calls that search a plant without demands, each of which a public function of this
 -- crate has as its contract.
 use Rattle.std.specs.Prelude.{◌≡◌, ◌⊎◌, ◌≤◌, ◌^◌, ℕ, suc, List, [], ◌∷◌, Some, length}
-use Rattle.problem_rules.specs.Problem.{Problem}
-use Rattle.text_rules.specs.Outside.{Told}
-use Rattle.text_rules.specs.State.{ShelfState, OutputsState}
-use Rattle.studio_rules.specs.Command.{Solving, Ranking, command_of}
-use Rattle.studio_rules.specs.Reading.{GivesProblem}
-use Rattle.studio_rules.specs.Ending.{Finishes, IsOneOf}
-use Rattle.studio_rules.specs.Answers.{WordsSay, SearchCanFinish}
-use Rattle.studio_rules.specs.declared.status.Status.{Status}
-use Rattle.studio_rules.specs.declared.status.Status.TheVariants.{Done, ReadFault, WriteFault}
-use Rattle.studio_rules.specs.declared.status.Status.TheVariants.{Memory}
+use Rattle.studio.specs.problem_rules.Problem.{Problem}
+use Rattle.studio.specs.text_rules.Outside.{Told}
+use Rattle.studio.specs.text_rules.State.{ShelfState, OutputsState}
+use Rattle.studio.specs.studio_rules.Command.{Solving, Ranking, command_of}
+use Rattle.studio.specs.studio_rules.Reading.{GivesProblem}
+use Rattle.studio.specs.studio_rules.Ending.{Finishes, IsOneOf}
+use Rattle.studio.specs.studio_rules.Answers.{WordsSay, SearchCanFinish}
+use Rattle.studio.specs.studio_rules.declared.status.Status.{Status}
+use Rattle.studio.specs.studio_rules.declared.status.Status.TheVariants.{Done, ReadFault}
+use Rattle.studio.specs.studio_rules.declared.status.Status.TheVariants.{WriteFault}
+use Rattle.studio.specs.studio_rules.declared.status.Status.TheVariants.{Memory}
 use Rattle.call_laws.specs.NoDemands.{HasNoDemands}
 
 -- the shelf knows that the file gives a plant without demands, for which the budget is large enough

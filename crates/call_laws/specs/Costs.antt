@@ -1,17 +1,17 @@
 -- The cost of the claim of a proof: all proofs of one problem claim networks of one cost, or all
 -- that no network has flows. A proof is a tree, with a head or without one.
 use Rattle.std.specs.Prelude.{◌≡◌, ◌⊎◌, ℕ, ◌*ℤ◌, List, Some}
-use Rattle.text_rules.specs.Outside.{Told}
-use Rattle.problem_rules.specs.Problem.{Problem}
-use Rattle.tree_rules.specs.Claim.{Network, Claim, network, infeasible, CostOver}
-use Rattle.tree_rules.specs.Accepted.{Tree}
-use Rattle.tree_rules.specs.Tail.{whole}
-use Rattle.tree_rules.specs.Head.{HeadLine}
-use Rattle.studio_rules.specs.Command.{Solving}
-use Rattle.studio_rules.specs.Reading.{GivesProblem}
-use Rattle.studio_rules.specs.Solve.{AreTextOf, AreHeadedTextOf, HasProof}
-use Rattle.studio_rules.specs.declared.status.Status.TheVariants.{Done}
-use Rattle.studio_rules.specs.Answers.{CommandAnswers}
+use Rattle.studio.specs.text_rules.Outside.{Told}
+use Rattle.studio.specs.problem_rules.Problem.{Problem}
+use Rattle.studio.specs.tree_rules.Claim.{Network, Claim, network, infeasible, CostOver}
+use Rattle.studio.specs.tree_rules.Accepted.{Tree}
+use Rattle.studio.specs.tree_rules.Tail.{whole}
+use Rattle.studio.specs.tree_rules.Head.{HeadLine}
+use Rattle.studio.specs.studio_rules.Command.{Solving}
+use Rattle.studio.specs.studio_rules.Reading.{GivesProblem}
+use Rattle.studio.specs.studio_rules.Solve.{AreTextOf, AreHeadedTextOf, HasProof}
+use Rattle.studio.specs.studio_rules.declared.status.Status.TheVariants.{Done}
+use Rattle.studio.specs.studio_rules.Answers.{CommandAnswers}
 
 -- ---- costs
 

@@ -1,11 +1,11 @@
 -- The law of undo over calls of `studio`: an edit of the edited plant by the script of `undo`.
 use Rattle.std.specs.Prelude.{◌⊎◌, ◌<◌, ◌++◌, ℕ, List, length, codes}
-use Rattle.problem_rules.specs.Problem.{Problem}
-use Rattle.text_rules.specs.Canonical.{canonical}
-use Rattle.studio_rules.specs.Lines.{line}
-use Rattle.studio_rules.specs.declared.status.Status.TheVariants.{Done, TooLong}
-use Rattle.studio_rules.specs.Reading.{GivesProblem, file_limit}
-use Rattle.studio_rules.specs.Command.{Editing, Undoing}
+use Rattle.studio.specs.problem_rules.Problem.{Problem}
+use Rattle.studio.specs.text_rules.Canonical.{canonical}
+use Rattle.studio.specs.studio_rules.Lines.{line}
+use Rattle.studio.specs.studio_rules.declared.status.Status.TheVariants.{Done, TooLong}
+use Rattle.studio.specs.studio_rules.Reading.{GivesProblem, file_limit}
+use Rattle.studio.specs.studio_rules.Command.{Editing, Undoing}
 use Rattle.studio.specs.Calls.{Call, Calls, Puts, Holds, EndsWith, HasFailed}
 use Rattle.call_laws.specs.EditLaws.{File, IsShort}
 

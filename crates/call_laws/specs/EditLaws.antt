@@ -1,15 +1,15 @@
 -- A law over what `edit` and `undo` print: an edit of the edited plant by the script of `undo`
 -- gives the plant back.
 use Rattle.std.specs.Prelude.{◌≡◌, ◌⊎◌, ◌≤◌, ℕ, List, Some, length}
-use Rattle.text_rules.specs.Outside.{Told}
-use Rattle.problem_rules.specs.Problem.{Problem}
-use Rattle.text_rules.specs.Canonical.{canonical_lines}
-use Rattle.studio_rules.specs.Lines.{text_of}
-use Rattle.studio_rules.specs.declared.status.Status.{Status}
-use Rattle.studio_rules.specs.declared.status.Status.TheVariants.{Done, TooLong}
-use Rattle.studio_rules.specs.Reading.{GivesProblem, IsLong, file_limit}
-use Rattle.studio_rules.specs.Command.{Editing, Undoing}
-use Rattle.studio_rules.specs.Answers.{CommandAnswers}
+use Rattle.studio.specs.text_rules.Outside.{Told}
+use Rattle.studio.specs.problem_rules.Problem.{Problem}
+use Rattle.studio.specs.text_rules.Canonical.{canonical_lines}
+use Rattle.studio.specs.studio_rules.Lines.{text_of}
+use Rattle.studio.specs.studio_rules.declared.status.Status.{Status}
+use Rattle.studio.specs.studio_rules.declared.status.Status.TheVariants.{Done, TooLong}
+use Rattle.studio.specs.studio_rules.Reading.{GivesProblem, IsLong, file_limit}
+use Rattle.studio.specs.studio_rules.Command.{Editing, Undoing}
+use Rattle.studio.specs.studio_rules.Answers.{CommandAnswers}
 
 -- a file with its name and its bytes
 pub record File : Type 0 where

@@ -1,14 +1,14 @@
 -- Laws of plants without demands, each of which a public function of this crate has as its
 -- contract.
 use Rattle.std.specs.Prelude.{ℕ, suc, ◌^◌, ◌≤◌, List, length}
-use Rattle.problem_rules.specs.Problem.{Problem}
-use Rattle.problem_rules.specs.Validity.{IsValid}
-use Rattle.pns_rules.specs.Nodes.{Node}
-use Rattle.flow_rules.specs.declared.place.Column.{Column}
-use Rattle.flow_rules.specs.declared.place.Place.{Place}
-use Rattle.flow_rules.specs.Net.{net_of}
-use Rattle.flow_rules.specs.PastPlace.{IsPastNamed}
-use Rattle.studio_rules.specs.Solve.{CanFinish}
+use Rattle.studio.specs.problem_rules.Problem.{Problem}
+use Rattle.studio.specs.problem_rules.Validity.{IsValid}
+use Rattle.studio.specs.pns_rules.Nodes.{Node}
+use Rattle.studio.specs.flow_rules.declared.place.Column.{Column}
+use Rattle.studio.specs.flow_rules.declared.place.Place.{Place}
+use Rattle.studio.specs.flow_rules.Net.{net_of}
+use Rattle.studio.specs.flow_rules.PastPlace.{IsPastNamed}
+use Rattle.studio.specs.studio_rules.Solve.{CanFinish}
 use Rattle.call_laws.specs.NoDemands.{HasNoDemands}
 
 -- at no node, whatever units it takes in and leaves out, a number overflows on the path of its

@@ -1,12 +1,12 @@
 -- A law over what `solve`, `split` and `part` answer: an open leaf of a search whose budget is
 -- spent is no bad node.
 use Rattle.std.specs.Prelude.{◌≡◌, ◌⊎◌, ◌++◌, ℕ, List, ◌∷◌, Some}
-use Rattle.text_rules.specs.Outside.{Told}
-use Rattle.studio_rules.specs.Lines.{text_of}
-use Rattle.studio_rules.specs.Command.{Solving, Splitting, Parting, PartingAgainst}
-use Rattle.studio_rules.specs.Answers.{CommandAnswers}
-use Rattle.studio_rules.specs.declared.status.Status.{Status}
-use Rattle.studio_rules.specs.declared.status.Status.TheVariants.{Done, Spent, BadNode}
+use Rattle.studio.specs.text_rules.Outside.{Told}
+use Rattle.studio.specs.studio_rules.Lines.{text_of}
+use Rattle.studio.specs.studio_rules.Command.{Solving, Splitting, Parting, PartingAgainst}
+use Rattle.studio.specs.studio_rules.Answers.{CommandAnswers}
+use Rattle.studio.specs.studio_rules.declared.status.Status.{Status}
+use Rattle.studio.specs.studio_rules.declared.status.Status.TheVariants.{Done, Spent, BadNode}
 use Rattle.call_laws.specs.Parts.{leaf_line}
 
 -- the status and lines of `part` from the node of the two words, with or without a tree whose

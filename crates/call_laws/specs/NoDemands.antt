@@ -1,7 +1,7 @@
 -- Plants without demands: nothing has to be made or bought, no unit has to run, no size earns.
 use Rattle.std.specs.Prelude.{◌≡◌, ℕ, ◌<◌, pos, ◌≤ℤ◌, length}
-use Rattle.problem_rules.specs.Problem.{Problem, material_at, unit_at}
-use Rattle.flow_rules.specs.Net.{net_of, size_cost}
+use Rattle.studio.specs.problem_rules.Problem.{Problem, material_at, unit_at}
+use Rattle.studio.specs.flow_rules.Net.{net_of, size_cost}
 
 -- Every lower bound is 0, and no unit earns by its size: its proportional cost, less the price of
 -- what it makes, and with the price of what it uses, is at least 0.

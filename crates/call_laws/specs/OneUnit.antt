@@ -1,9 +1,9 @@
 -- A worked plant without demands: one unit, which makes a product of a raw material at a fixed
 -- cost.
 use Rattle.std.specs.Prelude.{◌≡◌, ℕ, pos, List, [], ◌∷◌, Some, codes}
-use Rattle.problem_rules.specs.Problem.{Problem, raw_material, product}
-use Rattle.text_rules.specs.Outside.{Told}
-use Rattle.studio_rules.specs.Lines.{text_of}
+use Rattle.studio.specs.problem_rules.Problem.{Problem, raw_material, product}
+use Rattle.studio.specs.text_rules.Outside.{Told}
+use Rattle.studio.specs.studio_rules.Lines.{text_of}
 use Rattle.call_laws.specs.Calls.{IsSure}
 
 abbrev pub one_unit_text : List ℕ

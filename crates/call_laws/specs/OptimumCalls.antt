@@ -1,11 +1,11 @@
 -- The law of listed structures over calls of `studio` that read one plant.
 use Rattle.std.specs.Prelude.{◌≡◌, ℕ, List, Option}
-use Rattle.problem_rules.specs.Each.{Each}
-use Rattle.edit_rules.specs.Formed.{IsName}
-use Rattle.tree_rules.specs.Claim.{CostOver}
-use Rattle.tree_rules.specs.Costs.{HasFallen}
-use Rattle.studio_rules.specs.Lines.{text_of}
-use Rattle.studio_rules.specs.Command.{Flows, Listing, Solving}
+use Rattle.studio.specs.problem_rules.Each.{Each}
+use Rattle.studio.specs.edit_rules.Formed.{IsName}
+use Rattle.studio.specs.tree_rules.Claim.{CostOver}
+use Rattle.studio.specs.tree_rules.Costs.{HasFallen}
+use Rattle.studio.specs.studio_rules.Lines.{text_of}
+use Rattle.studio.specs.studio_rules.Command.{Flows, Listing, Solving}
 use Rattle.studio.specs.Calls.{Call, Calls, Puts, Holds}
 use Rattle.call_laws.specs.OptimumLaws.{FlowsTell, SolveTells, Lists}
 

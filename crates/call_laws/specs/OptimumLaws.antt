@@ -2,21 +2,21 @@
 -- on the optimum.
 use Rattle.std.specs.Prelude.{◌≡◌, ◌⊎◌, ℕ, ℤ, List, ◌∷◌, ◌++◌, Option, Some, None, codes, drop}
 use Rattle.std.specs.List.{Contains}
-use Rattle.integer_laws.specs.Range.{InRange}
-use Rattle.text_rules.specs.Outside.{Told}
-use Rattle.text_rules.specs.Canonical.{joined}
-use Rattle.problem_rules.specs.Each.{Each}
-use Rattle.pns_rules.specs.Tokens.{IsToken}
-use Rattle.edit_rules.specs.Formed.{IsName}
-use Rattle.tree_rules.specs.Claim.{CostOver}
-use Rattle.tree_rules.specs.Costs.{HasFallen}
-use Rattle.tree_text_rules.specs.Line.{word_text}
-use Rattle.tree_text_rules.specs.declared.Word.TheVariants as words
-use Rattle.tree_text_rules.specs.Spelling.{sizes_lines}
-use Rattle.studio_rules.specs.Printed.{spelled}
-use Rattle.studio_rules.specs.declared.status.Status.TheVariants.{Done}
-use Rattle.studio_rules.specs.Command.{Flows, Listing, Solving, Ranking}
-use Rattle.studio_rules.specs.Answers.{CommandAnswers}
+use Rattle.studio.specs.integer_laws.Range.{InRange}
+use Rattle.studio.specs.text_rules.Outside.{Told}
+use Rattle.studio.specs.text_rules.Canonical.{joined}
+use Rattle.studio.specs.problem_rules.Each.{Each}
+use Rattle.studio.specs.pns_rules.Tokens.{IsToken}
+use Rattle.studio.specs.edit_rules.Formed.{IsName}
+use Rattle.studio.specs.tree_rules.Claim.{CostOver}
+use Rattle.studio.specs.tree_rules.Costs.{HasFallen}
+use Rattle.studio.specs.tree_text_rules.Line.{word_text}
+use Rattle.studio.specs.tree_text_rules.declared.Word.TheVariants as words
+use Rattle.studio.specs.tree_text_rules.Spelling.{sizes_lines}
+use Rattle.studio.specs.studio_rules.Printed.{spelled}
+use Rattle.studio.specs.studio_rules.declared.status.Status.TheVariants.{Done}
+use Rattle.studio.specs.studio_rules.Command.{Flows, Listing, Solving, Ranking}
+use Rattle.studio.specs.studio_rules.Answers.{CommandAnswers}
 
 -- ---- which costs lines give
 

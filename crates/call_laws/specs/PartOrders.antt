@@ -1,24 +1,24 @@
 -- What `merge` prints does not depend on the order in which its parts are named: it is the text of
 -- one tree, with claims of one cost.
 use Rattle.std.specs.Prelude.{◌≡◌, ℕ, List, Some, IsPermutation}
-use Rattle.text_rules.specs.Outside.{Told}
-use Rattle.problem_rules.specs.Each.{Each}
-use Rattle.problem_rules.specs.Problem.{Problem}
-use Rattle.tree_rules.specs.Claim.{Claim}
-use Rattle.tree_rules.specs.Accepted.{Tree}
-use Rattle.tree_rules.specs.Tail.{whole}
-use Rattle.tree_text_rules.specs.Part.{Part}
-use Rattle.tree_text_rules.specs.Merge.{IsLeafOf}
-use Rattle.tree_parts.specs.Order.{SameCost, StartApart}
-use Rattle.studio_rules.specs.Causes.{AreTold}
-use Rattle.studio_rules.specs.Command.{Merging}
-use Rattle.studio_rules.specs.Reading.{GivesProblem}
-use Rattle.studio_rules.specs.Solve.{AreTextOf}
-use Rattle.studio_rules.specs.TreeFile.{GivesTree}
-use Rattle.studio_rules.specs.PartFile.{GiveParts}
-use Rattle.studio_rules.specs.declared.status.Status.{Status}
-use Rattle.studio_rules.specs.declared.status.Status.TheVariants.{Done}
-use Rattle.studio_rules.specs.Answers.{CommandAnswers}
+use Rattle.studio.specs.text_rules.Outside.{Told}
+use Rattle.studio.specs.problem_rules.Each.{Each}
+use Rattle.studio.specs.problem_rules.Problem.{Problem}
+use Rattle.studio.specs.tree_rules.Claim.{Claim}
+use Rattle.studio.specs.tree_rules.Accepted.{Tree}
+use Rattle.studio.specs.tree_rules.Tail.{whole}
+use Rattle.studio.specs.tree_text_rules.Part.{Part}
+use Rattle.studio.specs.tree_text_rules.Merge.{IsLeafOf}
+use Rattle.studio.specs.tree_parts.Order.{SameCost, StartApart}
+use Rattle.studio.specs.studio_rules.Causes.{AreTold}
+use Rattle.studio.specs.studio_rules.Command.{Merging}
+use Rattle.studio.specs.studio_rules.Reading.{GivesProblem}
+use Rattle.studio.specs.studio_rules.Solve.{AreTextOf}
+use Rattle.studio.specs.studio_rules.TreeFile.{GivesTree}
+use Rattle.studio.specs.studio_rules.PartFile.{GiveParts}
+use Rattle.studio.specs.studio_rules.declared.status.Status.{Status}
+use Rattle.studio.specs.studio_rules.declared.status.Status.TheVariants.{Done}
+use Rattle.studio.specs.studio_rules.Answers.{CommandAnswers}
 
 -- ---- the files of a call
 

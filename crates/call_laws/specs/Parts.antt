@@ -2,11 +2,11 @@
 -- open leaf, `merge` puts back.
 use Rattle.std.specs.Prelude.{◌≡◌, ◌⊎◌, ◌≤◌, ◌<◌, ◌++◌, ℕ, List, [], ◌∷◌, Some, length, codes}
 use Rattle.std.specs.Prelude.{decimal}
-use Rattle.studio_rules.specs.TreeFile.{tree_limit}
-use Rattle.studio_rules.specs.Command.{Splitting, Parting, PartingAgainst, Merging}
-use Rattle.studio_rules.specs.Lines.{line, text_of}
-use Rattle.studio_rules.specs.Ending.{IsOneOf}
-use Rattle.studio_rules.specs.declared.status.Status.TheVariants.{Done, Spent, Past, TooLong}
+use Rattle.studio.specs.studio_rules.TreeFile.{tree_limit}
+use Rattle.studio.specs.studio_rules.Command.{Splitting, Parting, PartingAgainst, Merging}
+use Rattle.studio.specs.studio_rules.Lines.{line, text_of}
+use Rattle.studio.specs.studio_rules.Ending.{IsOneOf}
+use Rattle.studio.specs.studio_rules.declared.status.Status.TheVariants.{Done, Spent, Past, TooLong}
 use Rattle.studio.specs.Calls.{Call, Calls, Puts, Holds, Keep, EndsWith, HasFailed}
 
 -- the line by which `split` lists an open leaf, with the two words of its node

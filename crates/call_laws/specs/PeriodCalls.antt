@@ -1,7 +1,7 @@
 -- `expand`, `solve` and `check` certify `periods`, over calls on shelves that keep the files.
 use Rattle.std.specs.Prelude.{◌≡◌, ◌⊎◌, ℕ, List}
-use Rattle.studio_rules.specs.Command.{Checking, Expanding, Solving, Planning}
-use Rattle.studio_rules.specs.Lines.{text_of}
+use Rattle.studio.specs.studio_rules.Command.{Checking, Expanding, Solving, Planning}
+use Rattle.studio.specs.studio_rules.Lines.{text_of}
 use Rattle.studio.specs.Calls.{Call, Calls, Puts, Holds, Accepts, HasFailed}
 use Rattle.call_laws.specs.Periods.{Certifies}
 

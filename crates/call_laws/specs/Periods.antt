@@ -2,25 +2,25 @@
 -- file, and what `solve` prints of this file costs what the design of `periods` does. That `check`
 -- accepts it is a law of `studio`.
 use Rattle.std.specs.Prelude.{◌≡◌, ◌≤◌, ◌⊎◌, ℕ, List, [], ◌∷◌, Some, Ok, codes, length}
-use Rattle.text_rules.specs.Canonical.{canonical_lines}
-use Rattle.text_rules.specs.Outside.{Told}
-use Rattle.problem_rules.specs.Problem.{Problem}
-use Rattle.problem_rules.specs.Validity.{IsValid}
-use Rattle.plan_rules.specs.Expanded.{expanded}
-use Rattle.plan_rules.specs.Meaning.{read_plan}
-use Rattle.plan_rules.specs.Plan.{Plan, IsPlan}
-use Rattle.tree_rules.specs.Claim.{Claim, infeasible}
-use Rattle.plan_rules.specs.Folded.{Written}
-use Rattle.plan_rules.specs.Least.{IsLeastDesign, HasNoDesign}
-use Rattle.studio_rules.specs.Command.{Expanding, Solving, Planning}
-use Rattle.studio_rules.specs.DesignText.{design_lines}
-use Rattle.studio_rules.specs.Lines.{text_of}
-use Rattle.studio_rules.specs.Plan.{GivesPlan}
-use Rattle.studio_rules.specs.Reading.{GivesProblem, LongFile, file_limit}
-use Rattle.studio_rules.specs.Solve.{SolveWork}
-use Rattle.studio_rules.specs.declared.status.Status.{Status}
-use Rattle.studio_rules.specs.declared.status.Status.TheVariants.{Done}
-use Rattle.studio_rules.specs.Answers.{CommandAnswers}
+use Rattle.studio.specs.text_rules.Canonical.{canonical_lines}
+use Rattle.studio.specs.text_rules.Outside.{Told}
+use Rattle.studio.specs.problem_rules.Problem.{Problem}
+use Rattle.studio.specs.problem_rules.Validity.{IsValid}
+use Rattle.studio.specs.plan_rules.Expanded.{expanded}
+use Rattle.studio.specs.plan_rules.Meaning.{read_plan}
+use Rattle.studio.specs.plan_rules.Plan.{Plan, IsPlan}
+use Rattle.studio.specs.tree_rules.Claim.{Claim, infeasible}
+use Rattle.studio.specs.plan_rules.Folded.{Written}
+use Rattle.studio.specs.plan_rules.Least.{IsLeastDesign, HasNoDesign}
+use Rattle.studio.specs.studio_rules.Command.{Expanding, Solving, Planning}
+use Rattle.studio.specs.studio_rules.DesignText.{design_lines}
+use Rattle.studio.specs.studio_rules.Lines.{text_of}
+use Rattle.studio.specs.studio_rules.Plan.{GivesPlan}
+use Rattle.studio.specs.studio_rules.Reading.{GivesProblem, LongFile, file_limit}
+use Rattle.studio.specs.studio_rules.Solve.{SolveWork}
+use Rattle.studio.specs.studio_rules.declared.status.Status.{Status}
+use Rattle.studio.specs.studio_rules.declared.status.Status.TheVariants.{Done}
+use Rattle.studio.specs.studio_rules.Answers.{CommandAnswers}
 use Rattle.call_laws.specs.Costs.{ClaimsCost, PrintsClaim}
 
 -- what a plan's text without a fault stands for is a plan for the problem

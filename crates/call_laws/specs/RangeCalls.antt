@@ -1,12 +1,12 @@
 -- `stable` agrees with `edit` and `solve`, over calls on shelves that keep the files.
 use Rattle.std.specs.Prelude.{◌≡◌, ℕ, List, [], ◌∷◌}
-use Rattle.problem_rules.specs.Problem.{Problem}
-use Rattle.edit_rules.specs.Edit.{Edit}
-use Rattle.edit_rules.specs.Printed.{script_text}
-use Rattle.tree_rules.specs.Claim.{CostOver}
-use Rattle.report_rules.specs.declared.spot.SpotKind.{SpotKind}
-use Rattle.studio_rules.specs.Command.{Editing, Solving, Ranging}
-use Rattle.studio_rules.specs.Lines.{text_of}
+use Rattle.studio.specs.problem_rules.Problem.{Problem}
+use Rattle.studio.specs.edit_rules.Edit.{Edit}
+use Rattle.studio.specs.edit_rules.Printed.{script_text}
+use Rattle.studio.specs.tree_rules.Claim.{CostOver}
+use Rattle.studio.specs.report_rules.declared.spot.SpotKind.{SpotKind}
+use Rattle.studio.specs.studio_rules.Command.{Editing, Solving, Ranging}
+use Rattle.studio.specs.studio_rules.Lines.{text_of}
 use Rattle.studio.specs.Calls.{Call, Calls, Puts, Holds}
 use Rattle.call_laws.specs.Costs.{PrintsCost}
 use Rattle.call_laws.specs.Ranges.{RangeIsSolved}

@@ -2,33 +2,33 @@
 -- finds for the plant after the edit to that value a network of the same cost as the network of the
 -- claim.
 use Rattle.std.specs.Prelude.{◌≡◌, ℕ, ℤ, ◌≤ℤ◌, List, [], ◌∷◌, Option, Some, IfSome}
-use Rattle.text_rules.specs.Canonical.{canonical_lines}
-use Rattle.text_rules.specs.Outside.{Told}
-use Rattle.problem_rules.specs.Problem.{Problem}
-use Rattle.problem_rules.specs.Validity.{IsValid}
-use Rattle.edit_rules.specs.Edit.{Edit, price, fix, proportional}
-use Rattle.edit_rules.specs.Effect.{effect}
-use Rattle.edit_rules.specs.Fault.{checks, AreClear}
-use Rattle.edit_rules.specs.Formed.{IsFormed}
-use Rattle.edit_rules.specs.Printed.{script_text}
-use Rattle.tree_rules.specs.Claim.{Network, Claim, network, CostOver, IsFeasible}
-use Rattle.tree_text_rules.specs.Read.{HeadedCertificate}
-use Rattle.report_rules.specs.declared.spot.Spot.{Spot}
-use Rattle.report_rules.specs.declared.spot.SpotKind.{SpotKind}
-use Rattle.report_rules.specs.declared.spot.SpotKind.TheVariants.{Price, Fix, Proportional}
-use Rattle.report_rules.specs.declared.side.Side.TheVariants.{Below, Above}
-use Rattle.report_rules.specs.Spot.{KnowsSpot, valued, IsAllowedValue}
-use Rattle.report_rules.specs.Range.{repriced, IsBestAt, beyond}
-use Rattle.studio_rules.specs.Command.{Editing, Solving, Ranging}
-use Rattle.studio_rules.specs.Lines.{text_of}
-use Rattle.studio_rules.specs.Printed.{spelled}
-use Rattle.studio_rules.specs.Reading.{AreHeld, GivesProblem}
-use Rattle.studio_rules.specs.HeadedFile.{GivesHeaded}
-use Rattle.studio_rules.specs.Stable.{spot_named, range_lines}
-use Rattle.studio_rules.specs.declared.status.Status.{Status}
-use Rattle.studio_rules.specs.declared.status.Status.TheVariants.{Done}
-use Rattle.studio_rules.specs.Answers.{CommandAnswers}
-use Rattle.studio_rules.specs.Solve.{HasProof}
+use Rattle.studio.specs.text_rules.Canonical.{canonical_lines}
+use Rattle.studio.specs.text_rules.Outside.{Told}
+use Rattle.studio.specs.problem_rules.Problem.{Problem}
+use Rattle.studio.specs.problem_rules.Validity.{IsValid}
+use Rattle.studio.specs.edit_rules.Edit.{Edit, price, fix, proportional}
+use Rattle.studio.specs.edit_rules.Effect.{effect}
+use Rattle.studio.specs.edit_rules.Fault.{checks, AreClear}
+use Rattle.studio.specs.edit_rules.Formed.{IsFormed}
+use Rattle.studio.specs.edit_rules.Printed.{script_text}
+use Rattle.studio.specs.tree_rules.Claim.{Network, Claim, network, CostOver, IsFeasible}
+use Rattle.studio.specs.tree_text_rules.Read.{HeadedCertificate}
+use Rattle.studio.specs.report_rules.declared.spot.Spot.{Spot}
+use Rattle.studio.specs.report_rules.declared.spot.SpotKind.{SpotKind}
+use Rattle.studio.specs.report_rules.declared.spot.SpotKind.TheVariants.{Price, Fix, Proportional}
+use Rattle.studio.specs.report_rules.declared.side.Side.TheVariants.{Below, Above}
+use Rattle.studio.specs.report_rules.Spot.{KnowsSpot, valued, IsAllowedValue}
+use Rattle.studio.specs.report_rules.Range.{repriced, IsBestAt, beyond}
+use Rattle.studio.specs.studio_rules.Command.{Editing, Solving, Ranging}
+use Rattle.studio.specs.studio_rules.Lines.{text_of}
+use Rattle.studio.specs.studio_rules.Printed.{spelled}
+use Rattle.studio.specs.studio_rules.Reading.{AreHeld, GivesProblem}
+use Rattle.studio.specs.studio_rules.HeadedFile.{GivesHeaded}
+use Rattle.studio.specs.studio_rules.Stable.{spot_named, range_lines}
+use Rattle.studio.specs.studio_rules.declared.status.Status.{Status}
+use Rattle.studio.specs.studio_rules.declared.status.Status.TheVariants.{Done}
+use Rattle.studio.specs.studio_rules.Answers.{CommandAnswers}
+use Rattle.studio.specs.studio_rules.Solve.{HasProof}
 use Rattle.call_laws.specs.Costs.{cost_of, ClaimsCost, PrintsCost}
 
 -- ---- the edit

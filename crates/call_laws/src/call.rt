@@ -1,15 +1,13 @@
 //! The call.
 ghost use Rattle.std.specs.Prelude.{◌∷◌, [], IfOk};
-ghost use Rattle.studio_rules.specs.Ending.{IsOneOf};
-ghost use Rattle.studio_rules.specs.declared.status.Status.TheVariants.{Done, ReadFault};
-ghost use Rattle.studio_rules.specs.declared.status.Status.TheVariants.{WriteFault, Memory};
+ghost use Rattle.studio.specs.studio_rules.Ending.{IsOneOf};
+ghost use Rattle.studio.specs.studio_rules.declared.status.Status.TheVariants.{Done, ReadFault};
+ghost use Rattle.studio.specs.studio_rules.declared.status.Status.TheVariants.{WriteFault, Memory};
 
 use crate::one_unit::{plant_shelf, solve_words};
-use pns_io::{Outputs, Sink};
-use pns_io::NoWatch;
-use std::alloc::{AllocError, Global};
-use studio::{Status, studio};
 use crate::{one_unit_is_sure, sure_call_is_done};
+use std::alloc::{AllocError, Global};
+use studio::{NoWatch, Outputs, Sink, Status, studio};
 
 /// A worked `solve` ends with 0, unless a read, an output or memory fails. It is of the plant of
 /// one unit, within a budget of 4. If it ends with 0, its whole answer is written.

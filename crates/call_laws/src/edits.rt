@@ -3,8 +3,7 @@ ghost use Rattle.call_laws.specs.EditLaws.{EditIsUndone};
 ghost use Rattle.call_laws.specs.EditCalls.{CallGivesBack};
 
 use crate::texts::canonical_is_short;
-use edit_laws::{printed_scripts_read, scripts_are_undone};
-use text_laws::canonical_reads;
+use studio::{canonical_reads, printed_scripts_read, scripts_are_undone};
 
 /// `edit` by what `undo` printed gives the plant back. It prints the canonical text of the plant,
 /// or that the script is too long.

@@ -1,9 +1,7 @@
 //! The open leaves of a search whose budget is spent.
 ghost use Rattle.call_laws.specs.Leaves.{SpentLeavesAreNodes};
 
-use tree_parts::open_leaves_stand;
-use pns_rules::valid_is_proper;
-use problem_rules::valid_is_well_formed;
+use studio::{open_leaves_stand, valid_is_proper, valid_is_well_formed};
 
 /// `part` never answers `bad node` to an open leaf of `solve`. The leaf is one that `split` listed
 /// of what `solve` printed with status 5.

@@ -1,10 +1,10 @@
 //! The shelf with the plant of one unit, and the words that solve it.
 ghost use Rattle.std.specs.Prelude.{◌≡◌, ◌∷◌, [], Some, IfOk, codes, map, string_bytes};
-ghost use Rattle.pns_io.specs.NamedFiles.{file_of};
+ghost use Rattle.studio.specs.pns_io.NamedFiles.{file_of};
 ghost use Rattle.call_laws.specs.OneUnit.{one_unit_text};
 
-use pns_io::MemShelf;
 use std::alloc::{AllocError, Global};
+use studio::MemShelf;
 
 /// The text of the plant.
 const PLANT: &str = "file_type=PNS_problem_v1

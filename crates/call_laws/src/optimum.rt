@@ -3,7 +3,7 @@ ghost use Rattle.call_laws.specs.OptimumLaws.{OneCostIsTold, ListedCostEnough};
 ghost use Rattle.call_laws.specs.OptimumLaws.{OptimumIsListed, FirstIsOptimal};
 ghost use Rattle.call_laws.specs.OptimumCalls.{CallsAgree};
 
-use problem_rules::valid_is_well_formed;
+use studio::valid_is_well_formed;
 
 /// Lines give one cost, if its numbers are in range.
 pub fn one_cost_is_told()

@@ -1,10 +1,11 @@
 //! `merge` of the same parts in another order.
 ghost use Rattle.call_laws.specs.PartOrders.{EachOrderMerges, MergesAgree};
 
-use tree_parts::{grafts_are_partial, open_leaves_stand, order_is_free};
-use tree_parts::{parts_are_read_once, read_parts_are_spelled};
-use tree_laws::{claim_has_one_fault, open_leaves_decide, tree_has_one_fault};
-use tree_text_laws::{read_texts_are_spelled, spelled_texts_read};
+use studio::{
+    claim_has_one_fault, grafts_are_partial, open_leaves_decide, open_leaves_stand, order_is_free,
+    parts_are_read_once, read_parts_are_spelled, read_texts_are_spelled, spelled_texts_read,
+    tree_has_one_fault,
+};
 
 /// Parts of different nodes make one tree in each order that merges. What `merge` prints with
 /// status 0 for two orders of the parts is the text of one tree, with claims of one cost, and reads

@@ -1,11 +1,10 @@
 //! Calls of a search in parts.
 ghost use Rattle.call_laws.specs.Parts.{MergeTakesPart};
 
-use tree_parts::open_leaves_stand;
-use tree_parts::parts_are_read_once;
-use pns_rules::valid_is_proper;
-use problem_rules::valid_is_well_formed;
-use tree_laws::{claim_has_one_fault, open_leaves_decide, tree_has_one_fault};
+use studio::{
+    claim_has_one_fault, open_leaves_decide, open_leaves_stand, parts_are_read_once,
+    tree_has_one_fault, valid_is_proper, valid_is_well_formed,
+};
 
 /// `merge` takes what `part` prints for a leaf of `split`. The text of `part` is kept as PART, and
 /// the problem file stays the same. Or `merge` says that the text is too long.

@@ -2,9 +2,7 @@
 ghost use Rattle.call_laws.specs.Periods.{ExpandedIsRead, PeriodsAreCertified, ReadIsPlan};
 
 use crate::costs::one_cost;
-use plan_laws::expanded_is_valid;
-use problem_rules::valid_is_well_formed;
-use text_laws::canonical_reads;
+use studio::{canonical_reads, expanded_is_valid, valid_is_well_formed};
 
 /// What is read of a plan is a plan for the problem.
 pub fn read_is_plan()

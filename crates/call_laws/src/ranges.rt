@@ -2,9 +2,7 @@
 ghost use Rattle.call_laws.specs.Ranges.{BestIsClaimed, RangesAreSolved, SettingsSetSpots};
 ghost use Rattle.call_laws.specs.Ranges.{ValuesAreEdited};
 
-use edit_laws::printed_scripts_read;
-use stability_laws::valued_is_valid;
-use text_laws::canonical_reads;
+use studio::{canonical_reads, printed_scripts_read, valued_is_valid};
 
 /// An edit to a value puts the value in the spot. A problem takes the edit of a named price or cost
 /// to a value within its limits.

@@ -1,7 +1,7 @@
 //! The canonical text of a plant can be read as a problem file.
 ghost use Rattle.call_laws.specs.TextLaws.{CanonicalIsShort};
 
-use problem_rules::valid_is_well_formed;
+use studio::valid_is_well_formed;
 
 /// The canonical text of a valid problem is within the limit of problem files.
 pub fn canonical_is_short()

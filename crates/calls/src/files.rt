@@ -1,10 +1,10 @@
 //! Files of the system, read whole and in pieces, and the standard output. No contract says what
 //! they have and take.
 
-use pns_io::{FileShelf, OutSink, Shelf, Sink, read_all};
 use std::alloc::Global;
 use std::io;
 use std::rt::Files;
+use tree_parts::{FileShelf, OutSink, Shelf, Sink, read_all};
 
 /// Puts the bytes to the standard output.
 fn put(rt: &impl Print, bytes: &[u8]) -> io::Result<()> {

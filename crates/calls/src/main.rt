@@ -18,10 +18,9 @@ mod plants;
 mod structures;
 mod texts;
 
-use pgraph::Graph;
+use neutral_extension::{Graph, Node, UnitSet};
 use plants::plant;
 use std::io;
-use unit_sets::{Node, UnitSet};
 
 fn main(rt: HostRuntime) -> io::Result<()> {
     files::wholes(&rt)?;

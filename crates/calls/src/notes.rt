@@ -1,8 +1,8 @@
 //! Second lines: how many there are at most, and how much of a long word they show.
 
-use studio_words::{Notes, Piece};
 use std::alloc::Global;
 use std::io;
+use studio_words::{Notes, Piece};
 
 /// Nine lines, each of a word of 201 bytes. Eight are kept, of 205 bytes each: two blanks, 200
 /// bytes of the word, two points and a line feed.

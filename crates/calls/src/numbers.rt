@@ -1,7 +1,7 @@
 //! Sums of mixed numbers. No contract says when there is one.
 
-use exact_numbers::Mixed;
 use std::io;
+use tree_parts::Mixed;
 
 const MAX: i128 = i128::MAX;
 

@@ -1,7 +1,6 @@
 //! The plant that the others work on.
 
-use pns_problem::Problem;
-use pns_text::read_problem;
+use pns_text::{Problem, read_problem};
 use std::alloc::{AllocError, Global};
 
 /// 20 t of P a year by way of C, from A or from B. Nothing makes E, and nothing needs F.

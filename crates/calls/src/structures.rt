@@ -1,11 +1,9 @@
 //! The steps at a node.
 
-use neutral_extension::{Extended, extend};
-use pgraph::Graph;
+use neutral_extension::{Extended, Graph, Node, extend};
 use std::alloc::Global;
 use std::io;
 use tree_parts::is_sound;
-use unit_sets::Node;
 
 /// The steps at a node, and the node to which they lead.
 pub fn extension(

@@ -1,9 +1,9 @@
 //! The head of a node, read alone from the text of a tree.
 
-use pns_problem::Problem;
+use pns_text::Problem;
 use std::alloc::Global;
 use std::io;
-use tree_reading::{Cut, read_head};
+use tree_parts::{Cut, read_head};
 
 const NODE: &[u8] = b"node U1 U2
 starve E

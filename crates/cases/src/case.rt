@@ -1,9 +1,7 @@
 //! A case: the call that it makes, and what it wants.
 
-use pns_io::{MemShelf, MemSink, Outputs};
-use pns_io::NoWatch;
 use std::alloc::{AllocError, Global};
-use studio::{code_of, studio};
+use studio::{MemShelf, MemSink, NoWatch, Outputs, code_of, studio};
 
 /// The room of each output in bytes, if a case says nothing of it.
 const ROOM: u64 = 1_000_000;

@@ -3,10 +3,11 @@ use Rattle.std.proofs.Common.{◌≡◌, ℕ, zero, suc, ◌<◌, ◌≤◌, Lis
 use Rattle.std.proofs.Common.{get_or, Option, Some, None, refl, sym, ap, ap₂, ◌∙◌, subst, arith}
 use Rattle.std.proofs.Common.{append_assoc, ◌↔◌, inl, inr}
 use Rattle.std.specs.Prelude.{IfSome, IfNone}
-use Rattle.number_sets.specs.Sets.{has, IsSet, Avoids}
-use Rattle.number_sets.specs.Options.{IsBetween, IsFirstOption, IsNextOption, IsLastOption}
-use Rattle.number_sets.specs.Options.{all_options, IsIn}
-use Rattle.number_sets.proofs.OptionLists as lists
+use Rattle.tree_text_rules.specs.number_sets.Sets.{has, IsSet, Avoids}
+use Rattle.tree_text_rules.specs.number_sets.Options.{IsBetween, IsFirstOption, IsNextOption}
+use Rattle.tree_text_rules.specs.number_sets.Options.{IsLastOption}
+use Rattle.tree_text_rules.specs.number_sets.Options.{all_options, IsIn}
+use Rattle.tree_text_rules.proofs.number_sets.Cited as lists
 
 abbrev pub head_of : List (List ℕ) → Option (List ℕ)
 head_of [] = None

@@ -3,20 +3,22 @@ use Rattle.std.proofs.Common.{◌≡◌, ◌⊎◌, ℕ, ◌≤◌, zero, suc, �
 use Rattle.std.proofs.Common.{◌∷◌, length, Option, refl, sym, subst, inl, inr, arith}
 use Rattle.std.proofs.lemmas.Int.{ints}
 use Rattle.std.proofs.lemmas.List.{length-map}
-use Rattle.problem_rules.specs.Each.{Each}
-use Rattle.problem_rules.specs.Problem.{Problem}
-use Rattle.pns_rules.specs.Shape.{shape_of}
-use Rattle.pns_rules.specs.Nodes.{Node}
-use Rattle.flow_rules.specs.ChargeFacts.{Facts}
-use Rattle.flow_rules.specs.ChargeLeaf.{Handed, IsScale, IsOneEach, CoversPass, IsFormed}
-use Rattle.flow_rules.specs.ChargeLeaf.{ChargeReaches, charge_of, ChargePasses, ChargeFails}
-use Rattle.flow_rules.specs.declared.charge_why.ChargeWhy.{ChargeWhy}
-use Rattle.flow_rules.specs.declared.charge_why.ChargeWhy.TheVariants as causes
-use Rattle.tree_rules.specs.Claim.{CostOver, IsAtLeast}
-use Rattle.tree_rules.specs.Leaf.{IsClaimed}
-use Rattle.pgraph.specs.declared.cover.Cover.{Cover}
-use Rattle.pgraph.specs.CoversView.{cover_of, covers_of}
-use Rattle.pgraph.specs.Kept.{IsKept, AreKept}
+use Rattle.tree_text_rules.specs.problem_rules.Each.{Each}
+use Rattle.tree_text_rules.specs.problem_rules.Problem.{Problem}
+use Rattle.tree_text_rules.specs.pns_rules.Shape.{shape_of}
+use Rattle.tree_text_rules.specs.pns_rules.Nodes.{Node}
+use Rattle.tree_text_rules.specs.flow_rules.ChargeFacts.{Facts}
+use Rattle.tree_text_rules.specs.flow_rules.ChargeLeaf.{Handed, IsScale, IsOneEach, CoversPass}
+use Rattle.tree_text_rules.specs.flow_rules.ChargeLeaf.{IsFormed}
+use Rattle.tree_text_rules.specs.flow_rules.ChargeLeaf.{ChargeReaches, charge_of, ChargePasses}
+use Rattle.tree_text_rules.specs.flow_rules.ChargeLeaf.{ChargeFails}
+use Rattle.tree_text_rules.specs.flow_rules.declared.charge_why.ChargeWhy.{ChargeWhy}
+use Rattle.tree_text_rules.specs.flow_rules.declared.charge_why.ChargeWhy.TheVariants as causes
+use Rattle.tree_text_rules.specs.tree_rules.Claim.{CostOver, IsAtLeast}
+use Rattle.tree_text_rules.specs.tree_rules.Leaf.{IsClaimed}
+use Rattle.charges.specs.pgraph.declared.cover.Cover.{Cover}
+use Rattle.charges.specs.pgraph.CoversView.{cover_of, covers_of}
+use Rattle.charges.specs.pgraph.Kept.{IsKept, AreKept}
 use Rattle.charges.specs.Sets.{AreBesideSmall}
 
 -- a scale that is not below 0

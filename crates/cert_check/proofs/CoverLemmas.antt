@@ -1,14 +1,14 @@
 -- The sets of a charge, judged one after the other.
 use Rattle.std.proofs.Common.{◌≡◌, ℕ, zero, suc, ◌<◌, ◌≤◌, List, [], ◌∷◌, drop, length, get_or, sym}
 use Rattle.std.proofs.Common.{subst, arith, IfSome}
-use Rattle.pns_rules.specs.Shape.{Shape}
-use Rattle.pns_rules.specs.Nodes.{Node}
-use Rattle.flow_rules.specs.Cover as rules
-use Rattle.flow_rules.specs.ChargeLeaf.{CoverPasses, CoversPass}
-use Rattle.problem_rules.specs.Each.{Each}
-use Rattle.pgraph.specs.declared.cover.Cover.{Cover}
-use Rattle.pgraph.specs.CoversView.{cover_of, covers_of}
-use Rattle.pgraph.specs.Kept.{IsKept}
+use Rattle.tree_text_rules.specs.pns_rules.Shape.{Shape}
+use Rattle.tree_text_rules.specs.pns_rules.Nodes.{Node}
+use Rattle.tree_text_rules.specs.flow_rules.Cover as rules
+use Rattle.tree_text_rules.specs.flow_rules.ChargeLeaf.{CoverPasses, CoversPass}
+use Rattle.tree_text_rules.specs.problem_rules.Each.{Each}
+use Rattle.charges.specs.pgraph.declared.cover.Cover.{Cover}
+use Rattle.charges.specs.pgraph.CoversView.{cover_of, covers_of}
+use Rattle.charges.specs.pgraph.Kept.{IsKept}
 use Rattle.cert_check.proofs.NodeLemmas.{step_ahead, none_ahead}
 
 -- the first i sets pass, so the others decide

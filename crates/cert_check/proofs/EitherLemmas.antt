@@ -1,12 +1,12 @@
 -- Branching in two at one unit: its options, and the nodes of the two children.
 use Rattle.std.proofs.Common.{◌≡◌, ℕ, ◌==◌, Bool, true, false, not, ◌&&◌, ◌||◌, List, [], ◌∷◌}
 use Rattle.std.proofs.Common.{length, get_or, refl, sym, ap, ◌∙◌, arith}
-use Rattle.number_sets.specs.Sets.{has, with_number}
-use Rattle.number_sets.proofs.SetLemmas.{has-with_number}
-use Rattle.pns_rules.specs.Shape.{Shape}
-use Rattle.tree_rules.specs.Ways.{either, child_at}
-use Rattle.unit_sets.specs.declared.node.Node.{Node}
-use Rattle.pgraph.specs.View.{node_of}
+use Rattle.tree_text_rules.specs.number_sets.Sets.{has, with_number}
+use Rattle.tree_text_rules.proofs.number_sets.Cited.{has-with_number}
+use Rattle.tree_text_rules.specs.pns_rules.Shape.{Shape}
+use Rattle.tree_text_rules.specs.tree_rules.Ways.{either, child_at}
+use Rattle.charges.specs.unit_sets.declared.node.Node.{Node}
+use Rattle.charges.specs.pgraph.View.{node_of}
 
 pub two_are : (xs : List (List ℕ)) (a b : List ℕ) → length xs ≡ 2 → a ≡ get_or xs 0 a
     → b ≡ get_or xs 1 b → xs ≡ a ∷ b ∷ []

@@ -2,15 +2,16 @@
 use Rattle.std.proofs.Common.{◌≡◌, ℕ, zero, suc, ◌+◌, ◌≤◌, List, [], ◌∷◌, drop, Option, refl, sym}
 use Rattle.std.proofs.Common.{ap}
 use Rattle.std.proofs.Common.{◌∙◌, true, false, subst, arith}
-use Rattle.problem_rules.specs.Problem.{Problem}
-use Rattle.pns_rules.specs.Shape.{shape_of}
-use Rattle.tree_rules.specs.Accepted.{first_node}
-use Rattle.tree_rules.specs.Claim.{CostOver}
+use Rattle.tree_text_rules.specs.problem_rules.Problem.{Problem}
+use Rattle.tree_text_rules.specs.pns_rules.Shape.{shape_of}
+use Rattle.tree_text_rules.specs.tree_rules.Accepted.{first_node}
+use Rattle.tree_text_rules.specs.tree_rules.Claim.{CostOver}
 use Rattle.cert_check.specs.Known.{KnowsInside}
-use Rattle.tree_rules.specs.declared.line_why.LineWhy.{LineWhy}
-use Rattle.tree_rules.specs.Head.{HeadLine, Known, known_first, after_line, after_lines}
-use Rattle.tree_rules.specs.Head.{LinePasses, LinesPass}
-use Rattle.tree_rules.specs.HeadFaults.{LineFails, IsFirstToFail}
+use Rattle.tree_text_rules.specs.tree_rules.declared.line_why.LineWhy.{LineWhy}
+use Rattle.tree_text_rules.specs.tree_rules.Head.{HeadLine, Known, known_first, after_line}
+use Rattle.tree_text_rules.specs.tree_rules.Head.{after_lines}
+use Rattle.tree_text_rules.specs.tree_rules.Head.{LinePasses, LinesPass}
+use Rattle.tree_text_rules.specs.tree_rules.HeadFaults.{LineFails, IsFirstToFail}
 
 -- nothing is taken in before the first line
 pub nothing_inside : (p : Problem) (k : Known) → k ≡ known_first p first_node

@@ -2,31 +2,34 @@
 use Rattle.std.proofs.Common.{◌≡◌, ℕ, Bool, false, List, [], ◌∷◌, Option, Result, Ok, Err, OnOk}
 use Rattle.std.proofs.Common.{IfErr}
 use Rattle.std.proofs.Common.{refl, ap, subst}
-use Rattle.problem_rules.specs.Problem.{Problem}
-use Rattle.problem_rules.specs.Validity.{IsValid}
-use Rattle.pns_rules.specs.Shape.{Shape, shape_of}
-use Rattle.pns_rules.specs.Structure.{IsStructure, IsAllowed}
-use Rattle.pns_rules.specs.Nodes.{Node}
-use Rattle.flow_rules.specs.ChargeFacts.{Facts}
-use Rattle.tree_rules.specs.declared.why.Why.{Why}
-use Rattle.tree_rules.specs.declared.refusal.Refusal as trees
-use Rattle.tree_rules.specs.declared.refusal.Refusal.TheVariants as causes
-use Rattle.tree_rules.specs.Tree.{Pass}
-use Rattle.tree_rules.specs.Claim as rules
-use Rattle.tree_rules.specs.Leaf.{Leaf}
-use Rattle.tree_rules.specs.Costs.{CostsEnough}
-use Rattle.tree_rules.specs.Accepted.{Tree, first_node}
+use Rattle.tree_text_rules.specs.problem_rules.Problem.{Problem}
+use Rattle.tree_text_rules.specs.problem_rules.Validity.{IsValid}
+use Rattle.tree_text_rules.specs.pns_rules.Shape.{Shape, shape_of}
+use Rattle.tree_text_rules.specs.pns_rules.Structure.{IsStructure, IsAllowed}
+use Rattle.tree_text_rules.specs.pns_rules.Nodes.{Node}
+use Rattle.tree_text_rules.specs.flow_rules.ChargeFacts.{Facts}
+use Rattle.tree_text_rules.specs.tree_rules.declared.why.Why.{Why}
+use Rattle.tree_text_rules.specs.tree_rules.declared.refusal.Refusal as trees
+use Rattle.tree_text_rules.specs.tree_rules.declared.refusal.Refusal.TheVariants as causes
+use Rattle.tree_text_rules.specs.tree_rules.Tree.{Pass}
+use Rattle.tree_text_rules.specs.tree_rules.Claim as rules
+use Rattle.tree_text_rules.specs.tree_rules.Leaf.{Leaf}
+use Rattle.tree_text_rules.specs.tree_rules.Costs.{CostsEnough}
+use Rattle.tree_text_rules.specs.tree_rules.Accepted.{Tree, first_node}
 use Rattle.tree_laws.specs.Laws.{PassingClaimHasNoFault}
 use Rattle.tree_laws.specs.HeadLaws.{AcceptedByIsOptimal, PassingTreeHasNoFaultBy}
-use Rattle.tree_rules.specs.declared.line_why.LineWhy.{LineWhy}
-use Rattle.tree_rules.specs.declared.head_refusal.HeadRefusal.{HeadRefusal}
-use Rattle.tree_rules.specs.declared.head_refusal.HeadRefusal.TheVariants.{Memory, Claim, Line}
-use Rattle.tree_rules.specs.declared.head_refusal.HeadRefusal.TheVariants as refusals
-use Rattle.tree_rules.specs.Head.{HeadLine, Known, known_first, LinesPass}
-use Rattle.tree_rules.specs.HeadFaults.{IsFirstToFail}
-use Rattle.tree_rules.specs.Headed.{head_known, head_node, head_facts, HeadPasses, LeafPassesBy}
-use Rattle.tree_rules.specs.Headed.{LeafFailsBy, IsAcceptedBy, ProvesBy, RefusesBy}
-use Rattle.tree_rules.specs.HeadLaws.{PassingHasNoFault}
+use Rattle.tree_text_rules.specs.tree_rules.declared.line_why.LineWhy.{LineWhy}
+use Rattle.tree_text_rules.specs.tree_rules.declared.head_refusal.HeadRefusal.{HeadRefusal}
+use Rattle.tree_text_rules.specs.tree_rules.declared.head_refusal.HeadRefusal.TheVariants.{Memory}
+use Rattle.tree_text_rules.specs.tree_rules.declared.head_refusal.HeadRefusal.TheVariants.{Claim}
+use Rattle.tree_text_rules.specs.tree_rules.declared.head_refusal.HeadRefusal.TheVariants.{Line}
+use Rattle.tree_text_rules.specs.tree_rules.declared.head_refusal.HeadRefusal.TheVariants as refusals
+use Rattle.tree_text_rules.specs.tree_rules.Head.{HeadLine, Known, known_first, LinesPass}
+use Rattle.tree_text_rules.specs.tree_rules.HeadFaults.{IsFirstToFail}
+use Rattle.tree_text_rules.specs.tree_rules.Headed.{head_known, head_node, head_facts, HeadPasses}
+use Rattle.tree_text_rules.specs.tree_rules.Headed.{LeafPassesBy}
+use Rattle.tree_text_rules.specs.tree_rules.Headed.{LeafFailsBy, IsAcceptedBy, ProvesBy, RefusesBy}
+use Rattle.tree_text_rules.specs.tree_rules.HeadLaws.{PassingHasNoFault}
 use Rattle.cert_check.specs.Refusals.{NamesFault}
 use Rattle.cert_check.specs.Headed.{IsOkOrMemoryBy, NamesFaultBy, refusal_by}
 

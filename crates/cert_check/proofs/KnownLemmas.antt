@@ -2,16 +2,18 @@
 use Rattle.std.proofs.Common.{◌≡◌, ℕ, ◌<◌, ◌==◌, ◌||◌, false, true, List, [], ◌∷◌, ◌++◌, map, refl}
 use Rattle.std.proofs.Common.{subst, inl, inr, eqb-true}
 use Rattle.std.proofs.lemmas.Bool.{or_cases, both_ways}
-use Rattle.number_sets.specs.Sets.{has}
-use Rattle.number_sets.specs.Options.{IsIn}
-use Rattle.number_sets.proofs.SetLemmas.{has_below}
-use Rattle.number_sets.proofs.OptionLists as lists
-use Rattle.pns_rules.specs.Shape.{Shape}
-use Rattle.pns_rules.specs.Nodes.{Node, Step, after, base_makers, free_makers, options, child}
-use Rattle.pns_rules.proofs.OptionLemmas.{makers_apart, base_set, free_set}
-use Rattle.tree_rules.specs.Ways.{at_material, either, MayBranch}
-use Rattle.tree_rules.specs.Tree.{End, branch, leaf, TreeNode, StepsPass, after_all, EndPasses}
-use Rattle.tree_rules.specs.Tree.{below}
+use Rattle.tree_text_rules.specs.number_sets.Sets.{has}
+use Rattle.tree_text_rules.specs.number_sets.Options.{IsIn}
+use Rattle.tree_text_rules.proofs.number_sets.Cited.{has_below}
+use Rattle.tree_text_rules.proofs.number_sets.Cited as lists
+use Rattle.tree_text_rules.specs.pns_rules.Shape.{Shape}
+use Rattle.tree_text_rules.specs.pns_rules.Nodes.{Node, Step, after, base_makers, free_makers}
+use Rattle.tree_text_rules.specs.pns_rules.Nodes.{options, child}
+use Rattle.tree_text_rules.proofs.pns_rules.Cited.{makers_apart, base_set, free_set}
+use Rattle.tree_text_rules.specs.tree_rules.Ways.{at_material, either, MayBranch}
+use Rattle.tree_text_rules.specs.tree_rules.Tree.{End, branch, leaf, TreeNode, StepsPass, after_all}
+use Rattle.tree_text_rules.specs.tree_rules.Tree.{EndPasses}
+use Rattle.tree_text_rules.specs.tree_rules.Tree.{below}
 use Rattle.cert_check.specs.Known.{KnowsInside}
 use Rattle.cert_check.proofs.NodeLemmas.{known_after}
 use Rattle.cert_check.specs.Subtrees.{AllKnown}

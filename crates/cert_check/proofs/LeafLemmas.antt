@@ -1,15 +1,17 @@
 -- What is judged of one leaf is judged of the end that is this leaf.
 use Rattle.std.proofs.Common.{◌≡◌, ℕ, ℤ, Bool, true, false, List, ◌++◌, Option, Result, Ok, Err}
 use Rattle.std.proofs.Common.{OnOk, IfErr, refl, sym, ap, ◌∙◌, subst, inr}
-use Rattle.flow_rules.specs.Cover.{Cover}
-use Rattle.flow_rules.specs.ChargeLeaf.{Handed}
-use Rattle.pns_rules.specs.Shape.{Shape}
-use Rattle.pns_rules.specs.Nodes.{Node, Step}
-use Rattle.tree_rules.specs.declared.why.Why.{Why}
-use Rattle.tree_rules.specs.Tree.{End, leaf, TreeNode, StepsPass, after_all, below, EndPasses}
-use Rattle.tree_rules.specs.Fault.{EndFails, NodeFails}
-use Rattle.tree_rules.specs.Leaf.{Leaf, Scaled, dead, clash, refuted, bounded, charged, untried}
-use Rattle.tree_rules.specs.Accepted.{Tree}
+use Rattle.tree_text_rules.specs.flow_rules.Cover.{Cover}
+use Rattle.tree_text_rules.specs.flow_rules.ChargeLeaf.{Handed}
+use Rattle.tree_text_rules.specs.pns_rules.Shape.{Shape}
+use Rattle.tree_text_rules.specs.pns_rules.Nodes.{Node, Step}
+use Rattle.tree_text_rules.specs.tree_rules.declared.why.Why.{Why}
+use Rattle.tree_text_rules.specs.tree_rules.Tree.{End, leaf, TreeNode, StepsPass, after_all, below}
+use Rattle.tree_text_rules.specs.tree_rules.Tree.{EndPasses}
+use Rattle.tree_text_rules.specs.tree_rules.Fault.{EndFails, NodeFails}
+use Rattle.tree_text_rules.specs.tree_rules.Leaf.{Leaf, Scaled, dead, clash, refuted, bounded}
+use Rattle.tree_text_rules.specs.tree_rules.Leaf.{charged, untried}
+use Rattle.tree_text_rules.specs.tree_rules.Accepted.{Tree}
 use Rattle.branch_tree.specs.View.{end_of}
 use Rattle.branch_tree.specs.declared.end.End as ends
 use Rattle.branch_tree.specs.declared.end.End.TheVariants.{Dead, Clash, Refuted, Bound, Charge}

@@ -2,27 +2,29 @@
 use Rattle.std.proofs.Common.{◌≡◌, ℕ, ◌<◌, ℤ, ◌≤ℤ◌, ◌==◌, ◌||◌, false, List, [], ◌∷◌, Option}
 use Rattle.std.proofs.Common.{refl, sym, ap, ◌∙◌, subst, inl, inr, eqb-true}
 use Rattle.std.proofs.lemmas.Bool.{or_cases}
-use Rattle.problem_rules.specs.Problem.{Problem}
-use Rattle.pns_rules.specs.Shape.{Shape, shape_of}
-use Rattle.pns_rules.specs.Nodes as nodes
-use Rattle.pns_rules.specs.Nodes.{IsPossible, after}
-use Rattle.tree_rules.specs.Tree.{StepsPass, after_all}
-use Rattle.tree_rules.specs.Claim.{CostOver, IsAtLeast}
-use Rattle.tree_rules.specs.Leaf.{IsClaimed}
-use Rattle.flow_rules.specs.ChargeFacts.{Demand, Facts}
-use Rattle.flow_rules.specs.Cover.{Cover, IsFree}
-use Rattle.flow_rules.specs.ChargeLeaf.{Handed}
-use Rattle.flow_rules.specs.Net.{net_of}
+use Rattle.tree_text_rules.specs.problem_rules.Problem.{Problem}
+use Rattle.tree_text_rules.specs.pns_rules.Shape.{Shape, shape_of}
+use Rattle.tree_text_rules.specs.pns_rules.Nodes as nodes
+use Rattle.tree_text_rules.specs.pns_rules.Nodes.{IsPossible, after}
+use Rattle.tree_text_rules.specs.tree_rules.Tree.{StepsPass, after_all}
+use Rattle.tree_text_rules.specs.tree_rules.Claim.{CostOver, IsAtLeast}
+use Rattle.tree_text_rules.specs.tree_rules.Leaf.{IsClaimed}
+use Rattle.tree_text_rules.specs.flow_rules.ChargeFacts.{Demand, Facts}
+use Rattle.tree_text_rules.specs.flow_rules.Cover.{Cover, IsFree}
+use Rattle.tree_text_rules.specs.flow_rules.ChargeLeaf.{Handed}
+use Rattle.tree_text_rules.specs.flow_rules.Net.{net_of}
 use Rattle.cert_check.specs.Known.{KnowsInside}
-use Rattle.tree_rules.specs.declared.line_why.LineWhy.{LineWhy}
-use Rattle.tree_rules.specs.declared.line_why.LineWhy.TheVariants as causes
-use Rattle.tree_rules.specs.Charged.{IsCharged}
-use Rattle.tree_rules.specs.Trim.{trimmed_size, MayTrim}
-use Rattle.tree_rules.specs.Head as rules
-use Rattle.tree_rules.specs.Head.{step, cap, out, trim, uses, with_in, with_out, with_least}
-use Rattle.tree_rules.specs.Head.{with_most, with_used, with_demand, MayCap, MayLeave, LinePasses}
-use Rattle.tree_rules.specs.Head.{after_line}
-use Rattle.tree_rules.specs.HeadFaults.{ChargeFails, IsSize, IsUse, LineFails}
+use Rattle.tree_text_rules.specs.tree_rules.declared.line_why.LineWhy.{LineWhy}
+use Rattle.tree_text_rules.specs.tree_rules.declared.line_why.LineWhy.TheVariants as causes
+use Rattle.tree_text_rules.specs.tree_rules.Charged.{IsCharged}
+use Rattle.tree_text_rules.specs.tree_rules.Trim.{trimmed_size, MayTrim}
+use Rattle.tree_text_rules.specs.tree_rules.Head as rules
+use Rattle.tree_text_rules.specs.tree_rules.Head.{step, cap, out, trim, uses, with_in, with_out}
+use Rattle.tree_text_rules.specs.tree_rules.Head.{with_least}
+use Rattle.tree_text_rules.specs.tree_rules.Head.{with_most, with_used, with_demand, MayCap}
+use Rattle.tree_text_rules.specs.tree_rules.Head.{MayLeave, LinePasses}
+use Rattle.tree_text_rules.specs.tree_rules.Head.{after_line}
+use Rattle.tree_text_rules.specs.tree_rules.HeadFaults.{ChargeFails, IsSize, IsUse, LineFails}
 
 -- ---- what a charge hands in
 

@@ -3,14 +3,15 @@ use Rattle.std.proofs.Common.{◌≡◌, ℕ, suc, zero, ◌<◌, ◌≤◌, ◌
 use Rattle.std.proofs.Common.{◌∷◌, drop, map, length, get_or, refl, sym, ap, ◌∙◌, subst, inl, inr}
 use Rattle.std.proofs.Common.{eqb-true, arith}
 use Rattle.std.proofs.lemmas.Bool.{or_cases}
-use Rattle.number_sets.specs.Sets.{has, union, minus}
-use Rattle.number_sets.proofs.SetLemmas.{has-union, has-minus}
-use Rattle.pns_rules.specs.Shape.{Shape}
-use Rattle.pns_rules.specs.Nodes as rules
-use Rattle.pns_rules.specs.Nodes.{Step, raw, rival, starve, loose, sole, IsPossible, after}
-use Rattle.tree_rules.specs.Tree.{StepsPass, after_all}
-use Rattle.unit_sets.specs.declared.node.Node.{Node}
-use Rattle.pgraph.specs.View.{node_of}
+use Rattle.tree_text_rules.specs.number_sets.Sets.{has, union, minus}
+use Rattle.tree_text_rules.proofs.number_sets.Cited.{has-union, has-minus}
+use Rattle.tree_text_rules.specs.pns_rules.Shape.{Shape}
+use Rattle.tree_text_rules.specs.pns_rules.Nodes as rules
+use Rattle.tree_text_rules.specs.pns_rules.Nodes.{Step, raw, rival, starve, loose, sole, IsPossible}
+use Rattle.tree_text_rules.specs.pns_rules.Nodes.{after}
+use Rattle.tree_text_rules.specs.tree_rules.Tree.{StepsPass, after_all}
+use Rattle.charges.specs.unit_sets.declared.node.Node.{Node}
+use Rattle.charges.specs.pgraph.View.{node_of}
 use Rattle.cert_check.specs.Known.{KnowsInside}
 use Rattle.cert_check.proofs.SetLemmas.{same_at}
 

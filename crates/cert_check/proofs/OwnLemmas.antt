@@ -1,21 +1,20 @@
 -- Leaves that are judged with the problem's own numbers are judged as in a tree without a head.
 use Rattle.std.proofs.Common.{◌≡◌, Bool, List, [], ◌∷◌, Option, Result, Ok, Err, OnOk, IfErr, subst}
-use Rattle.problem_rules.specs.Problem.{Problem}
-use Rattle.pns_rules.specs.Shape.{shape_of}
-use Rattle.pns_rules.specs.Nodes.{Node}
-use Rattle.flow_rules.specs.Net.{net_of}
-use Rattle.flow_rules.specs.ChargeFacts.{Facts, own_facts}
-use Rattle.tree_rules.specs.declared.why.Why.{Why}
-use Rattle.tree_rules.specs.declared.refusal.Refusal.{Refusal}
-use Rattle.tree_rules.specs.declared.refusal.Refusal.TheVariants.{Memory, Claim}
-use Rattle.tree_rules.specs.declared.refusal.Refusal.TheVariants as refusals
-use Rattle.tree_rules.specs.Tree.{Pass}
-use Rattle.tree_rules.specs.Claim.{CostOver}
-use Rattle.tree_rules.specs.Leaf.{Leaf, LeafPasses, LeafFails}
-use Rattle.tree_rules.specs.Accepted.{Tree}
-use Rattle.tree_laws.proofs.OpenLemmas.{passes_too}
-use Rattle.tree_rules.specs.Headed.{LeafPassesBy, LeafFailsBy}
-use Rattle.tree_laws.proofs.EmptyLemmas.{by_passes, by_fails, fault_too}
+use Rattle.tree_text_rules.specs.problem_rules.Problem.{Problem}
+use Rattle.tree_text_rules.specs.pns_rules.Shape.{shape_of}
+use Rattle.tree_text_rules.specs.pns_rules.Nodes.{Node}
+use Rattle.tree_text_rules.specs.flow_rules.Net.{net_of}
+use Rattle.tree_text_rules.specs.flow_rules.ChargeFacts.{Facts, own_facts}
+use Rattle.tree_text_rules.specs.tree_rules.declared.why.Why.{Why}
+use Rattle.tree_text_rules.specs.tree_rules.declared.refusal.Refusal.{Refusal}
+use Rattle.tree_text_rules.specs.tree_rules.declared.refusal.Refusal.TheVariants.{Memory, Claim}
+use Rattle.tree_text_rules.specs.tree_rules.declared.refusal.Refusal.TheVariants as refusals
+use Rattle.tree_text_rules.specs.tree_rules.Tree.{Pass}
+use Rattle.tree_text_rules.specs.tree_rules.Claim.{CostOver}
+use Rattle.tree_text_rules.specs.tree_rules.Leaf.{Leaf, LeafPasses, LeafFails}
+use Rattle.tree_text_rules.specs.tree_rules.Accepted.{Tree}
+use Rattle.tree_laws.proofs.Cited.{passes_too, by_passes, by_fails, fault_too}
+use Rattle.tree_text_rules.specs.tree_rules.Headed.{LeafPassesBy, LeafFailsBy}
 use Rattle.cert_check.specs.Refusals.{NamesFault}
 use Rattle.cert_check.specs.declared.walk.Stop.{Stop}
 

@@ -1,23 +1,23 @@
 -- The answer is the one answer that the claim and the tree have, unless there is no memory.
 use Rattle.std.proofs.Common.{◌≡◌, ℕ, Bool, false, [], ◌∷◌, Option, Result, Ok, Err, OnOk, IfErr}
 use Rattle.std.proofs.Common.{refl, ap, ap₂, subst, inl, inr}
-use Rattle.problem_rules.specs.Problem.{Problem}
-use Rattle.problem_rules.specs.Validity.{IsValid}
-use Rattle.pns_rules.specs.Shape.{shape_of}
-use Rattle.pns_rules.specs.Structure.{IsStructure, IsAllowed}
-use Rattle.pns_rules.specs.Nodes.{Node}
-use Rattle.tree_rules.specs.declared.why.Why.{Why}
-use Rattle.tree_rules.specs.Tree.{Pass}
-use Rattle.tree_rules.specs.Claim as rules
-use Rattle.tree_rules.specs.Leaf.{LeafPasses, LeafFails}
-use Rattle.tree_rules.specs.Accepted.{Tree, first_node, Proves, NodeIsFault}
-use Rattle.tree_rules.specs.Costs.{CostsEnough}
+use Rattle.tree_text_rules.specs.problem_rules.Problem.{Problem}
+use Rattle.tree_text_rules.specs.problem_rules.Validity.{IsValid}
+use Rattle.tree_text_rules.specs.pns_rules.Shape.{shape_of}
+use Rattle.tree_text_rules.specs.pns_rules.Structure.{IsStructure, IsAllowed}
+use Rattle.tree_text_rules.specs.pns_rules.Nodes.{Node}
+use Rattle.tree_text_rules.specs.tree_rules.declared.why.Why.{Why}
+use Rattle.tree_text_rules.specs.tree_rules.Tree.{Pass}
+use Rattle.tree_text_rules.specs.tree_rules.Claim as rules
+use Rattle.tree_text_rules.specs.tree_rules.Leaf.{LeafPasses, LeafFails}
+use Rattle.tree_text_rules.specs.tree_rules.Accepted.{Tree, first_node, Proves, NodeIsFault}
+use Rattle.tree_text_rules.specs.tree_rules.Costs.{CostsEnough}
 use Rattle.tree_laws.specs.Laws.{AcceptedIsOptimal, PassingClaimHasNoFault, ClaimHasOneFault}
 use Rattle.tree_laws.specs.Laws.{PassingTreeHasNoFault, TreeHasOneFault}
-use Rattle.tree_rules.specs.declared.refusal.Refusal.{Refusal}
-use Rattle.tree_rules.specs.declared.refusal.Refusal.TheVariants.{Memory, Claim}
-use Rattle.tree_rules.specs.declared.refusal.Refusal.TheVariants as refusals
-use Rattle.tree_rules.specs.Refusals.{Refuses}
+use Rattle.tree_text_rules.specs.tree_rules.declared.refusal.Refusal.{Refusal}
+use Rattle.tree_text_rules.specs.tree_rules.declared.refusal.Refusal.TheVariants.{Memory, Claim}
+use Rattle.tree_text_rules.specs.tree_rules.declared.refusal.Refusal.TheVariants as refusals
+use Rattle.tree_text_rules.specs.tree_rules.Refusals.{Refuses}
 use Rattle.cert_check.specs.Refusals.{IsOkOrMemory, IsRefusalOrMemory, NamesFault}
 
 module _ {A : Type 0} (partial : Bool) (p : Problem) (start : Node) (claim : rules.Claim)

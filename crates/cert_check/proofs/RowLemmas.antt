@@ -2,13 +2,15 @@
 use Rattle.std.proofs.Common.{◌≡◌, ℕ, ◌<◌, nat_lt, Bool, true, false, not, List, ◌↔◌, sym, ap, ◌∙◌}
 use Rattle.std.proofs.Common.{inl, inr, lt-ltb}
 use Rattle.std.proofs.lemmas.Bool.{or_cases, or_left, or_right, and_from, and_parts, not-true}
-use Rattle.number_sets.specs.Sets.{has, listed, IsRising}
-use Rattle.number_sets.proofs.SetLemmas.{has-listed, IsRising-listed, same_sets, same_tests}
-use Rattle.pns_rules.specs.Shape.{Shape, IsProper}
-use Rattle.pns_rules.specs.Structure.{is_made, is_used, mats}
-use Rattle.pns_rules.specs.Nodes.{Node}
-use Rattle.pns_rules.proofs.StructureLemmas.{is_made-from, is_made-some, is_used-from, is_used-some}
-use Rattle.flow_rules.specs.Relaxed.{stays}
+use Rattle.tree_text_rules.specs.number_sets.Sets.{has, listed, IsRising}
+use Rattle.tree_text_rules.proofs.number_sets.Cited.{has-listed, IsRising-listed, same_sets}
+use Rattle.tree_text_rules.proofs.number_sets.Cited.{same_tests}
+use Rattle.tree_text_rules.specs.pns_rules.Shape.{Shape, IsProper}
+use Rattle.tree_text_rules.specs.pns_rules.Structure.{is_made, is_used, mats}
+use Rattle.tree_text_rules.specs.pns_rules.Nodes.{Node}
+use Rattle.tree_text_rules.proofs.pns_rules.Cited.{is_made-from, is_made-some, is_used-from}
+use Rattle.tree_text_rules.proofs.pns_rules.Cited.{is_used-some}
+use Rattle.tree_text_rules.specs.flow_rules.Relaxed.{stays}
 use Rattle.cert_check.proofs.SetLemmas.{same_at}
 
 mats_known : (g : Shape) (proper : IsProper g) (s : ℕ → Bool) (x : ℕ) → mats g s x ≡ true

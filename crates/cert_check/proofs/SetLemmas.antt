@@ -4,10 +4,10 @@ use Rattle.std.proofs.Common.{◌∷◌, ◌↔◌, refl, sym, ap, ◌∙◌, su
 use Rattle.std.proofs.Common.{lt-ltb, ltb-true}
 use Rattle.std.proofs.lemmas.Bool.{or_left, or_cases, and_parts, and_from, both_ways, not-true}
 use Rattle.std.proofs.lemmas.Bool.{false_from_ne_true}
-use Rattle.number_sets.specs.Sets.{has, meet, minus, Avoids, IsRising}
-use Rattle.number_sets.proofs.SetLemmas.{has-meet, has-minus, same_sets, same_tests}
-use Rattle.pns_rules.specs.Shape.{Shape}
-use Rattle.pns_rules.specs.Nodes.{Node, is_free}
+use Rattle.tree_text_rules.specs.number_sets.Sets.{has, meet, minus, Avoids, IsRising}
+use Rattle.tree_text_rules.proofs.number_sets.Cited.{has-meet, has-minus, same_sets, same_tests}
+use Rattle.tree_text_rules.specs.pns_rules.Shape.{Shape}
+use Rattle.tree_text_rules.specs.pns_rules.Nodes.{Node, is_free}
 
 pub same_at : (s t : ℕ → Bool) (u : ℕ) → s ≡ t → s u ≡ t u
 same_at s t u e = ap (λ (f : ℕ → Bool). f u) e

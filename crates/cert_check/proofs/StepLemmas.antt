@@ -3,13 +3,15 @@ use Rattle.std.proofs.Common.{◌≡◌, ℕ, ◌<◌, Bool, true, false, not, �
 use Rattle.std.proofs.Common.{sym, ap, ap₂, ◌∙◌, inl, inr}
 use Rattle.std.proofs.lemmas.Bool.{or_cases, or_left, or_right, and_parts, both_ways}
 use Rattle.std.proofs.lemmas.Bool.{false_from_ne_true, true_from_ne_false}
-use Rattle.number_sets.specs.Sets.{has, minus, union, IsWithin, Avoids}
-use Rattle.number_sets.proofs.SetLemmas.{has-union}
-use Rattle.pns_rules.specs.Shape.{Shape, IsProper}
-use Rattle.pns_rules.specs.Structure.{is_made, is_used, is_needed}
-use Rattle.pns_rules.specs.Nodes.{Node, raw, starve, loose, sole, IsPossible, is_free}
-use Rattle.pns_rules.specs.Ends.{IsDead}
-use Rattle.pns_rules.proofs.StructureLemmas.{is_made-from, is_made-some, is_used-from, is_used-some}
+use Rattle.tree_text_rules.specs.number_sets.Sets.{has, minus, union, IsWithin, Avoids}
+use Rattle.tree_text_rules.proofs.number_sets.Cited.{has-union}
+use Rattle.tree_text_rules.specs.pns_rules.Shape.{Shape, IsProper}
+use Rattle.tree_text_rules.specs.pns_rules.Structure.{is_made, is_used, is_needed}
+use Rattle.tree_text_rules.specs.pns_rules.Nodes.{Node, raw, starve, loose, sole, IsPossible}
+use Rattle.tree_text_rules.specs.pns_rules.Nodes.{is_free}
+use Rattle.tree_text_rules.specs.pns_rules.Ends.{IsDead}
+use Rattle.tree_text_rules.proofs.pns_rules.Cited.{is_made-from, is_made-some, is_used-from}
+use Rattle.tree_text_rules.proofs.pns_rules.Cited.{is_used-some}
 use Rattle.cert_check.proofs.SetLemmas.{same_at, some_number, none_there, is_none, left_is}
 
 module _ (g : Shape) (o : ℕ → Bool) (x : ℕ) where

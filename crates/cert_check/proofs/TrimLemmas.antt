@@ -7,11 +7,11 @@ use Rattle.std.proofs.lemmas.Bool.{cases_eq}
 use Rattle.std.specs.Prelude.{int_lt}
 use Rattle.std.specs.Int.{int_max}
 use Rattle.std.proofs.lemmas.Int.{ints, clamps}
-use Rattle.number_sets.specs.Sets.{listed}
-use Rattle.pns_rules.specs.Nodes.{Node}
-use Rattle.flow_rules.specs.Net.{Net, high_end}
-use Rattle.flow_rules.specs.ChargeFacts.{Facts}
-use Rattle.tree_rules.specs.Trim.{greatest, makers_most}
+use Rattle.tree_text_rules.specs.number_sets.Sets.{listed}
+use Rattle.tree_text_rules.specs.pns_rules.Nodes.{Node}
+use Rattle.tree_text_rules.specs.flow_rules.Net.{Net, high_end}
+use Rattle.tree_text_rules.specs.flow_rules.ChargeFacts.{Facts}
+use Rattle.tree_text_rules.specs.tree_rules.Trim.{greatest, makers_most}
 use Rattle.cert_check.specs.Trims.{Bears}
 
 max_swap : (a b c : ℤ) → int_max a (int_max b c) ≡ int_max b (int_max a c)

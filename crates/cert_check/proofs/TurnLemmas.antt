@@ -2,15 +2,17 @@
 use Rattle.std.proofs.Common.{◌≡◌, ℕ, ◌+◌, ◌<◌, List, [], ◌∷◌, ◌++◌, length, map, drop, get_or}
 use Rattle.std.proofs.Common.{refl, sym, ap, ◌∙◌, subst, add-one, arith, ◌≤◌, append_assoc}
 use Rattle.std.proofs.lemmas.List.{append-nil, drop_all, reverse-append}
-use Rattle.pns_rules.specs.Shape.{Shape}
-use Rattle.pns_rules.specs.Nodes as rules
-use Rattle.tree_rules.specs.declared.why.Why.{Why}
-use Rattle.tree_rules.specs.Tree.{End, branch, leaf, TreeNode, Pass, below, after_all}
-use Rattle.tree_rules.specs.Fault.{NodeFails, IsFirstFault}
-use Rattle.tree_rules.specs.Leaf.{Leaf, dead, clash, refuted, bounded, charged, untried}
-use Rattle.tree_rules.specs.Accepted.{Tree}
-use Rattle.unit_sets.specs.declared.node.Node.{Node}
-use Rattle.pgraph.specs.View.{node_of}
+use Rattle.tree_text_rules.specs.pns_rules.Shape.{Shape}
+use Rattle.tree_text_rules.specs.pns_rules.Nodes as rules
+use Rattle.tree_text_rules.specs.tree_rules.declared.why.Why.{Why}
+use Rattle.tree_text_rules.specs.tree_rules.Tree.{End, branch, leaf, TreeNode, Pass, below}
+use Rattle.tree_text_rules.specs.tree_rules.Tree.{after_all}
+use Rattle.tree_text_rules.specs.tree_rules.Fault.{NodeFails, IsFirstFault}
+use Rattle.tree_text_rules.specs.tree_rules.Leaf.{Leaf, dead, clash, refuted, bounded, charged}
+use Rattle.tree_text_rules.specs.tree_rules.Leaf.{untried}
+use Rattle.tree_text_rules.specs.tree_rules.Accepted.{Tree}
+use Rattle.charges.specs.unit_sets.declared.node.Node.{Node}
+use Rattle.charges.specs.pgraph.View.{node_of}
 use Rattle.cert_check.specs.Known.{KnowsInside}
 use Rattle.cert_check.specs.Subtrees.{stack_of, AllKnown}
 use Rattle.tree_text_rules.specs.OpenLeaves.{OpenAt, open_here, open_leaves}

@@ -2,13 +2,13 @@
 use Rattle.std.proofs.Common.{◌≡◌, ℕ, ◌<◌, ◌≤◌, ◌∙◌, ◌&&◌, Bool, true, false, List, sym, ap, arith}
 use Rattle.std.specs.Prelude.{ℤ, Option, Some, None, IsTrue, IfSome, ◌↔◌}
 use Rattle.std.proofs.lemmas.Bool.{both_ways, lt-ltb}
-use Rattle.number_sets.specs.Sets.{has, listed}
-use Rattle.number_sets.proofs.SetLemmas.{has-listed}
-use Rattle.pns_rules.specs.Shape.{Shape, IsProper}
-use Rattle.pns_rules.specs.Structure.{mats}
-use Rattle.pns_rules.specs.Nodes.{Node}
-use Rattle.flow_rules.specs.Relaxed.{stays}
-use Rattle.flow_program.proofs.NodeSetLemmas.{listed_had, mats_known}
+use Rattle.tree_text_rules.specs.number_sets.Sets.{has, listed}
+use Rattle.tree_text_rules.proofs.number_sets.Cited.{has-listed}
+use Rattle.tree_text_rules.specs.pns_rules.Shape.{Shape, IsProper}
+use Rattle.tree_text_rules.specs.pns_rules.Structure.{mats}
+use Rattle.tree_text_rules.specs.pns_rules.Nodes.{Node}
+use Rattle.tree_text_rules.specs.flow_rules.Relaxed.{stays}
+use Rattle.charges.proofs.flow_program.Cited.{listed_had, mats_known}
 use Rattle.cert_check.specs.Uses.{IsInner}
 
 pub if_some : (r : Option ℤ) (P : Type 0) → P → IfSome r (λ v. P)

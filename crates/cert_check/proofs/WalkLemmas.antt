@@ -2,13 +2,14 @@
 use Rattle.std.proofs.Common.{◌≡◌, ℕ, zero, suc, ◌+◌, List, [], ◌∷◌, ◌++◌, length, refl, sym, ap}
 use Rattle.std.proofs.Common.{◌∙◌, subst, arith, length-append}
 use Rattle.std.proofs.lemmas.List.{length-map}
-use Rattle.pns_rules.specs.Shape.{Shape}
-use Rattle.pns_rules.specs.Nodes.{Node}
-use Rattle.tree_rules.specs.declared.why.Why.{Why}
-use Rattle.tree_rules.specs.Ways.{width, options_at, child_at}
-use Rattle.tree_rules.specs.Tree.{End, branch, leaf, TreeNode, children, IsForest, skip, roots}
-use Rattle.tree_rules.specs.Tree.{StepsPass, after_all, EndPasses, below, Pass}
-use Rattle.tree_rules.specs.Fault.{NodeFails, IsFirstFault}
+use Rattle.tree_text_rules.specs.pns_rules.Shape.{Shape}
+use Rattle.tree_text_rules.specs.pns_rules.Nodes.{Node}
+use Rattle.tree_text_rules.specs.tree_rules.declared.why.Why.{Why}
+use Rattle.tree_text_rules.specs.tree_rules.Ways.{width, options_at, child_at}
+use Rattle.tree_text_rules.specs.tree_rules.Tree.{End, branch, leaf, TreeNode, children, IsForest}
+use Rattle.tree_text_rules.specs.tree_rules.Tree.{skip, roots}
+use Rattle.tree_text_rules.specs.tree_rules.Tree.{StepsPass, after_all, EndPasses, below, Pass}
+use Rattle.tree_text_rules.specs.tree_rules.Fault.{NodeFails, IsFirstFault}
 
 module _ {L : Type 0} where
   pub skip-nil : (k : ℕ) → skip {L = L} k [] ≡ []

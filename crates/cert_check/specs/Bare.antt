@@ -1,11 +1,12 @@
 -- Leaves judged without the bounds of open ones.
 use Rattle.std.specs.Prelude.{Bool, true, false, Option, None}
-use Rattle.problem_rules.specs.Problem.{Problem}
-use Rattle.pns_rules.specs.Nodes.{Node}
-use Rattle.tree_rules.specs.declared.why.Why.{Why}
-use Rattle.tree_rules.specs.Claim.{CostOver}
-use Rattle.tree_rules.specs.Leaf.{Leaf, dead, clash, refuted, bounded, charged, untried, LeafPasses}
-use Rattle.tree_rules.specs.Leaf.{LeafFails}
+use Rattle.tree_text_rules.specs.problem_rules.Problem.{Problem}
+use Rattle.tree_text_rules.specs.pns_rules.Nodes.{Node}
+use Rattle.tree_text_rules.specs.tree_rules.declared.why.Why.{Why}
+use Rattle.tree_text_rules.specs.tree_rules.Claim.{CostOver}
+use Rattle.tree_text_rules.specs.tree_rules.Leaf.{Leaf, dead, clash, refuted, bounded, charged}
+use Rattle.tree_text_rules.specs.tree_rules.Leaf.{untried, LeafPasses}
+use Rattle.tree_text_rules.specs.tree_rules.Leaf.{LeafFails}
 
 -- an open leaf has no bound then
 abbrev pub bare : Leaf → Leaf

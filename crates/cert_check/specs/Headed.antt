@@ -1,16 +1,18 @@
 -- Answers of a check of a tree that may have a head.
 use Rattle.std.specs.Prelude.{◌≡◌, List, Result, Ok, Err}
-use Rattle.pns_rules.specs.Shape.{Shape}
-use Rattle.pns_rules.specs.Nodes.{Node}
-use Rattle.tree_rules.specs.declared.why.Why.{Why}
-use Rattle.tree_rules.specs.declared.refusal.Refusal as trees
-use Rattle.tree_rules.specs.declared.refusal.Refusal.TheVariants as causes
-use Rattle.tree_rules.specs.Fault.{IsFirstFault}
-use Rattle.tree_rules.specs.Leaf.{Leaf}
-use Rattle.tree_rules.specs.Accepted.{Tree}
-use Rattle.tree_rules.specs.declared.head_refusal.HeadRefusal.{HeadRefusal}
-use Rattle.tree_rules.specs.declared.head_refusal.HeadRefusal.TheVariants.{Memory, Claim, Line}
-use Rattle.tree_rules.specs.declared.head_refusal.HeadRefusal.TheVariants as refusals
+use Rattle.tree_text_rules.specs.pns_rules.Shape.{Shape}
+use Rattle.tree_text_rules.specs.pns_rules.Nodes.{Node}
+use Rattle.tree_text_rules.specs.tree_rules.declared.why.Why.{Why}
+use Rattle.tree_text_rules.specs.tree_rules.declared.refusal.Refusal as trees
+use Rattle.tree_text_rules.specs.tree_rules.declared.refusal.Refusal.TheVariants as causes
+use Rattle.tree_text_rules.specs.tree_rules.Fault.{IsFirstFault}
+use Rattle.tree_text_rules.specs.tree_rules.Leaf.{Leaf}
+use Rattle.tree_text_rules.specs.tree_rules.Accepted.{Tree}
+use Rattle.tree_text_rules.specs.tree_rules.declared.head_refusal.HeadRefusal.{HeadRefusal}
+use Rattle.tree_text_rules.specs.tree_rules.declared.head_refusal.HeadRefusal.TheVariants.{Memory}
+use Rattle.tree_text_rules.specs.tree_rules.declared.head_refusal.HeadRefusal.TheVariants.{Claim}
+use Rattle.tree_text_rules.specs.tree_rules.declared.head_refusal.HeadRefusal.TheVariants.{Line}
+use Rattle.tree_text_rules.specs.tree_rules.declared.head_refusal.HeadRefusal.TheVariants as refusals
 
 -- the answer is Ok or `Memory`
 abbrev pub IsOkOrMemoryBy : {A : Type 0} → Result A HeadRefusal → Type 0

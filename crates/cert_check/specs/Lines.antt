@@ -1,13 +1,13 @@
 -- What is said of one line.
 use Rattle.std.specs.Prelude.{◌≡◌, Option}
-use Rattle.problem_rules.specs.Problem.{Problem}
-use Rattle.pns_rules.specs.Shape.{shape_of}
-use Rattle.pgraph.specs.View.{node_of}
-use Rattle.tree_rules.specs.Claim.{CostOver}
-use Rattle.tree_rules.specs.Head as rules
-use Rattle.tree_rules.specs.Head.{HeadLine, after_line, LinePasses}
-use Rattle.tree_rules.specs.HeadFaults.{LineFails}
-use Rattle.tree_rules.specs.declared.line_why.LineWhy.{LineWhy}
+use Rattle.tree_text_rules.specs.problem_rules.Problem.{Problem}
+use Rattle.tree_text_rules.specs.pns_rules.Shape.{shape_of}
+use Rattle.charges.specs.pgraph.View.{node_of}
+use Rattle.tree_text_rules.specs.tree_rules.Claim.{CostOver}
+use Rattle.tree_text_rules.specs.tree_rules.Head as rules
+use Rattle.tree_text_rules.specs.tree_rules.Head.{HeadLine, after_line, LinePasses}
+use Rattle.tree_text_rules.specs.tree_rules.HeadFaults.{LineFails}
+use Rattle.tree_text_rules.specs.tree_rules.declared.line_why.LineWhy.{LineWhy}
 use Rattle.cert_check.specs.Known.{KnowsInside}
 use Rattle.cert_check.specs.View.{known_of}
 use Rattle.cert_check.specs.declared.known.Known.{Known}

@@ -1,14 +1,14 @@
 -- The open leaves that a walk gives, as the rules speak of them.
 use Rattle.std.specs.Prelude.{◌≡◌, ℕ, ◌<◌, ◌≤◌, List, [], ◌∷◌, ◌++◌, map}
-use Rattle.pns_rules.specs.Shape.{Shape}
-use Rattle.pns_rules.specs.Nodes.{Node}
-use Rattle.tree_rules.specs.Accepted.{Tree}
+use Rattle.tree_text_rules.specs.pns_rules.Shape.{Shape}
+use Rattle.tree_text_rules.specs.pns_rules.Nodes.{Node}
+use Rattle.tree_text_rules.specs.tree_rules.Accepted.{Tree}
 use Rattle.tree_text_rules.specs.OpenLeaves.{OpenAt, open_leaves}
 use Rattle.cert_check.specs.declared.open_leaf.OpenLeaf.{OpenLeaf}
-use Rattle.tree_rules.specs.declared.refusal.Refusal.{Refusal}
-use Rattle.tree_rules.specs.declared.refusal.Refusal.TheVariants.{Memory, Claim}
-use Rattle.tree_rules.specs.declared.refusal.Refusal.TheVariants as refusals
-use Rattle.pgraph.specs.View.{node_of}
+use Rattle.tree_text_rules.specs.tree_rules.declared.refusal.Refusal.{Refusal}
+use Rattle.tree_text_rules.specs.tree_rules.declared.refusal.Refusal.TheVariants.{Memory, Claim}
+use Rattle.tree_text_rules.specs.tree_rules.declared.refusal.Refusal.TheVariants as refusals
+use Rattle.charges.specs.pgraph.View.{node_of}
 
 abbrev pub leaf_at : OpenLeaf → OpenAt
 leaf_at l = record { number = l.number; node = node_of l.node }

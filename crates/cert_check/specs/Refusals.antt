@@ -1,17 +1,17 @@
 -- What a refusal of nodes names. `Memory`, out of memory, says nothing. It is the only answer that
 -- may come instead of another.
 use Rattle.std.specs.Prelude.{◌≡◌, ◌⊎◌, ℕ, Bool, List, Result, Ok, Err}
-use Rattle.problem_rules.specs.Problem.{Problem}
-use Rattle.pns_rules.specs.Shape.{Shape}
-use Rattle.pns_rules.specs.Nodes.{Node}
-use Rattle.tree_rules.specs.declared.why.Why.{Why}
-use Rattle.tree_rules.specs.Fault.{IsFirstFault}
-use Rattle.tree_rules.specs.Leaf.{Leaf}
-use Rattle.tree_rules.specs.Claim as rules
-use Rattle.tree_rules.specs.Accepted.{Tree, NodeIsFault}
-use Rattle.tree_rules.specs.declared.refusal.Refusal.{Refusal}
-use Rattle.tree_rules.specs.declared.refusal.Refusal.TheVariants.{Memory, Claim}
-use Rattle.tree_rules.specs.declared.refusal.Refusal.TheVariants as refusals
+use Rattle.tree_text_rules.specs.problem_rules.Problem.{Problem}
+use Rattle.tree_text_rules.specs.pns_rules.Shape.{Shape}
+use Rattle.tree_text_rules.specs.pns_rules.Nodes.{Node}
+use Rattle.tree_text_rules.specs.tree_rules.declared.why.Why.{Why}
+use Rattle.tree_text_rules.specs.tree_rules.Fault.{IsFirstFault}
+use Rattle.tree_text_rules.specs.tree_rules.Leaf.{Leaf}
+use Rattle.tree_text_rules.specs.tree_rules.Claim as rules
+use Rattle.tree_text_rules.specs.tree_rules.Accepted.{Tree, NodeIsFault}
+use Rattle.tree_text_rules.specs.tree_rules.declared.refusal.Refusal.{Refusal}
+use Rattle.tree_text_rules.specs.tree_rules.declared.refusal.Refusal.TheVariants.{Memory, Claim}
+use Rattle.tree_text_rules.specs.tree_rules.declared.refusal.Refusal.TheVariants as refusals
 
 -- of the subtrees of the nodes, the first that fails is the one that the refusal names, for its
 -- cause

@@ -1,10 +1,10 @@
 -- What contracts see of a claimed cost, and of what a charge hands in.
 use Rattle.std.specs.Prelude.{ℤ, List, Option, Some, None}
-use Rattle.flow_rules.specs.ChargeLeaf.{Handed}
-use Rattle.tree_rules.specs.Claim as rules
-use Rattle.exact_numbers.specs.declared.cost.CostOver.{CostOver}
-use Rattle.pgraph.specs.declared.cover.Cover.{Cover}
-use Rattle.pgraph.specs.CoversView.{covers_of}
+use Rattle.tree_text_rules.specs.flow_rules.ChargeLeaf.{Handed}
+use Rattle.tree_text_rules.specs.tree_rules.Claim as rules
+use Rattle.charges.specs.exact_numbers.declared.cost.CostOver.{CostOver}
+use Rattle.charges.specs.pgraph.declared.cover.Cover.{Cover}
+use Rattle.charges.specs.pgraph.CoversView.{covers_of}
 
 abbrev pub cost_over : Option CostOver → Option rules.CostOver
 cost_over None = None

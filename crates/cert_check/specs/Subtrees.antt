@@ -1,12 +1,12 @@
 -- The ends of the subtrees of a tree, and the nodes that are left on a walk.
 use Rattle.std.specs.Prelude.{◌≡◌, ℕ, ◌<◌, ◌≤◌, List, map, drop, length, get_or, reverse}
 use Rattle.std.specs.List.{AllByRecursion}
-use Rattle.pns_rules.specs.Shape.{Shape}
-use Rattle.pns_rules.specs.Nodes as rules
-use Rattle.tree_rules.specs.Tree.{skip}
-use Rattle.tree_rules.specs.Accepted.{Tree}
-use Rattle.unit_sets.specs.declared.node.Node.{Node}
-use Rattle.pgraph.specs.View.{node_of}
+use Rattle.tree_text_rules.specs.pns_rules.Shape.{Shape}
+use Rattle.tree_text_rules.specs.pns_rules.Nodes as rules
+use Rattle.tree_text_rules.specs.tree_rules.Tree.{skip}
+use Rattle.tree_text_rules.specs.tree_rules.Accepted.{Tree}
+use Rattle.charges.specs.unit_sets.declared.node.Node.{Node}
+use Rattle.charges.specs.pgraph.View.{node_of}
 use Rattle.cert_check.specs.Known.{KnowsInside}
 use Rattle.cert_check.specs.declared.subtrees.Behind.{Behind}
 

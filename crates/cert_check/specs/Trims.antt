@@ -1,9 +1,9 @@
 -- Materials that bear less of a unit.
 use Rattle.std.specs.Prelude.{◌≡◌, ℕ, pos, ◌≤ℤ◌, ◌<ℤ◌, false}
-use Rattle.pns_rules.specs.Nodes.{Node}
-use Rattle.flow_rules.specs.Net.{Net, high_end}
-use Rattle.flow_rules.specs.ChargeFacts.{Facts}
-use Rattle.tree_rules.specs.Trim.{makers_most}
+use Rattle.tree_text_rules.specs.pns_rules.Nodes.{Node}
+use Rattle.tree_text_rules.specs.flow_rules.Net.{Net, high_end}
+use Rattle.tree_text_rules.specs.flow_rules.ChargeFacts.{Facts}
+use Rattle.tree_text_rules.specs.tree_rules.Trim.{makers_most}
 
 -- an output is no raw material, and of an input no more can be made than may be left over
 abbrev pub Bears : Net → Node → Facts → ℕ → ℕ → Type 0

@@ -1,9 +1,9 @@
 -- Materials whose use a line may bound.
 use Rattle.std.specs.Prelude.{◌≡◌, ℕ, true, false}
-use Rattle.pns_rules.specs.Shape.{Shape}
-use Rattle.pns_rules.specs.Structure.{mats}
-use Rattle.pns_rules.specs.Nodes.{Node}
-use Rattle.flow_rules.specs.Relaxed.{stays}
+use Rattle.tree_text_rules.specs.pns_rules.Shape.{Shape}
+use Rattle.tree_text_rules.specs.pns_rules.Structure.{mats}
+use Rattle.tree_text_rules.specs.pns_rules.Nodes.{Node}
+use Rattle.tree_text_rules.specs.flow_rules.Relaxed.{stays}
 
 -- a unit that may stay makes or uses it, and it is no raw material
 abbrev pub IsInner : Shape → Node → ℕ → Type 0

@@ -1,16 +1,17 @@
 -- What happens at one node of a walk.
 use Rattle.std.specs.Prelude.{◌≡◌, ℕ, List, ◌++◌}
-use Rattle.pns_rules.specs.Shape.{Shape}
-use Rattle.pns_rules.specs.Nodes.{Node}
-use Rattle.tree_rules.specs.declared.why.Why.{Why}
-use Rattle.tree_rules.specs.declared.refusal.Refusal.{Refusal}
-use Rattle.tree_rules.specs.declared.refusal.Refusal.TheVariants as refusals
-use Rattle.tree_rules.specs.Tree.{TreeNode, roots, StepsPass, after_all, below, EndPasses}
-use Rattle.tree_rules.specs.Ways.{Way, width, MayBranch, options_at}
-use Rattle.tree_rules.specs.Leaf.{Leaf}
-use Rattle.tree_rules.specs.Accepted.{Tree}
+use Rattle.tree_text_rules.specs.pns_rules.Shape.{Shape}
+use Rattle.tree_text_rules.specs.pns_rules.Nodes.{Node}
+use Rattle.tree_text_rules.specs.tree_rules.declared.why.Why.{Why}
+use Rattle.tree_text_rules.specs.tree_rules.declared.refusal.Refusal.{Refusal}
+use Rattle.tree_text_rules.specs.tree_rules.declared.refusal.Refusal.TheVariants as refusals
+use Rattle.tree_text_rules.specs.tree_rules.Tree.{TreeNode, roots, StepsPass, after_all, below}
+use Rattle.tree_text_rules.specs.tree_rules.Tree.{EndPasses}
+use Rattle.tree_text_rules.specs.tree_rules.Ways.{Way, width, MayBranch, options_at}
+use Rattle.tree_text_rules.specs.tree_rules.Leaf.{Leaf}
+use Rattle.tree_text_rules.specs.tree_rules.Accepted.{Tree}
 use Rattle.charges.specs.Known.{facts_of}
-use Rattle.tree_rules.specs.Headed.{LeafPassesBy, LeafFailsBy}
+use Rattle.tree_text_rules.specs.tree_rules.Headed.{LeafPassesBy, LeafFailsBy}
 use Rattle.cert_check.specs.Shown.{cost_over}
 use Rattle.cert_check.specs.Bare.{as_judged}
 use Rattle.cert_check.specs.declared.visit.Judge.{Judge}

@@ -1,26 +1,26 @@
 //! Charges of a node: of a leaf, or of a line at the head of a tree.
 ghost use Rattle.std.specs.Prelude.{◌≡◌, ◌↔◌, ◌<◌, ◌≤ℤ◌, ◌<ℤ◌, pos, Bool, IsTrue, IfSome, IfNone};
 ghost use Rattle.std.specs.Prelude.{OnOk, IfErr};
-ghost use Rattle.pns_rules.specs.Shape.{shape_of};
-ghost use Rattle.flow_rules.specs.ChargeLeaf.{IsScale, IsOneEach, CoverPasses, CoversPass, IsFormed};
-ghost use Rattle.flow_rules.specs.ChargeLeaf.{ChargeReaches, charge_of, ChargePasses, ChargeFails};
+ghost use Rattle.tree_text_rules.specs.pns_rules.Shape.{shape_of};
+ghost use Rattle.tree_text_rules.specs.flow_rules.ChargeLeaf.{IsScale, IsOneEach, CoverPasses};
+ghost use Rattle.tree_text_rules.specs.flow_rules.ChargeLeaf.{CoversPass, IsFormed};
+ghost use Rattle.tree_text_rules.specs.flow_rules.ChargeLeaf.{ChargeReaches, charge_of};
+ghost use Rattle.tree_text_rules.specs.flow_rules.ChargeLeaf.{ChargePasses, ChargeFails};
 ghost use Rattle.charges.specs.Known.{facts_of};
-ghost use Rattle.tree_rules.specs.Claim.{IsAtLeast};
-ghost use Rattle.tree_rules.specs.Leaf.{IsClaimed};
-ghost use Rattle.pgraph.specs.Tables.{shape};
-ghost use Rattle.pgraph.specs.View.{node_of};
-ghost use Rattle.pgraph.specs.CoversView.{cover_of, covers_of};
-ghost use Rattle.pgraph.specs.Kept.{AreKept};
+ghost use Rattle.tree_text_rules.specs.tree_rules.Claim.{IsAtLeast};
+ghost use Rattle.tree_text_rules.specs.tree_rules.Leaf.{IsClaimed};
+ghost use Rattle.charges.specs.pgraph.Tables.{shape};
+ghost use Rattle.charges.specs.pgraph.View.{node_of};
+ghost use Rattle.charges.specs.pgraph.CoversView.{cover_of, covers_of};
+ghost use Rattle.charges.specs.pgraph.Kept.{AreKept};
 ghost use Rattle.cert_check.specs.Known.{KnowsInside};
 ghost use Rattle.cert_check.specs.Shown.{cost_over, handed};
 
 use crate::leaves::{is_one_each, is_scale};
-use flow_rules::ChargeWhy;
-use charges::{Charge, Facts, charge_of, covers_node, is_cover};
-use pgraph::Cover;
-use exact_numbers::CostOver;
-use pgraph::{Graph, Site};
-use unit_sets::Node;
+use charges::{
+    Charge, CostOver, Cover, Facts, Graph, Node, Site, charge_of, covers_node, is_cover,
+};
+use tree_text_rules::ChargeWhy;
 
 /// Whether the number is not below 0.
 fn is_not_negative(number: i128) -> bool

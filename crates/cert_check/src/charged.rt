@@ -1,22 +1,18 @@
 //! The charge of a line.
 ghost use Rattle.std.specs.Prelude.{◌≡◌, OnOk, IfErr};
-ghost use Rattle.pns_rules.specs.Shape.{shape_of};
-ghost use Rattle.pgraph.specs.View.{node_of};
+ghost use Rattle.tree_text_rules.specs.pns_rules.Shape.{shape_of};
+ghost use Rattle.charges.specs.pgraph.View.{node_of};
 ghost use Rattle.charges.specs.Known.{facts_of};
 ghost use Rattle.cert_check.specs.Known.{KnowsInside};
 ghost use Rattle.cert_check.specs.Shown.{cost_over};
-ghost use Rattle.tree_rules.specs.Charged.{IsCharged};
-ghost use Rattle.tree_rules.specs.HeadFaults as rules;
+ghost use Rattle.tree_text_rules.specs.tree_rules.Charged.{IsCharged};
+ghost use Rattle.tree_text_rules.specs.tree_rules.HeadFaults as rules;
 
+use crate::judge_charge;
 use crate::known::Known;
 use branch_tree::Scaled;
-use crate::judge_charge;
-use flow_rules::ChargeWhy;
-use charges::Charge;
-use pgraph::Covers;
-use exact_numbers::CostOver;
-use tree_rules::LineWhy;
-use pgraph::Site;
+use charges::{Charge, CostOver, Covers, Site};
+use tree_text_rules::{ChargeWhy, LineWhy};
 
 /// The cause of a charge that fails, as that of its line.
 fn line_why(why: ChargeWhy) -> LineWhy

@@ -1,13 +1,13 @@
 //! Claims with their trees.
 ghost use Rattle.std.specs.Prelude.{◌≡◌, ◌<◌, ◌^◌, ◌∷◌, [], ℕ, Bool, true, false, length, OnOk};
 ghost use Rattle.std.specs.Prelude.{IfOk, IfErr};
-ghost use Rattle.pns_rules.specs.Shape.{shape_of};
-ghost use Rattle.pns_rules.specs.Structure.{IsStructure, IsAllowed};
-ghost use Rattle.tree_rules.specs.Tree.{Pass};
-ghost use Rattle.tree_rules.specs.Claim as rules;
-ghost use Rattle.tree_rules.specs.Accepted.{first_node, Proves, IsAccepted};
-ghost use Rattle.tree_rules.specs.Costs.{CostsEnough};
-ghost use Rattle.pgraph.specs.View.{node_of};
+ghost use Rattle.tree_text_rules.specs.pns_rules.Shape.{shape_of};
+ghost use Rattle.tree_text_rules.specs.pns_rules.Structure.{IsStructure, IsAllowed};
+ghost use Rattle.tree_text_rules.specs.tree_rules.Tree.{Pass};
+ghost use Rattle.tree_text_rules.specs.tree_rules.Claim as rules;
+ghost use Rattle.tree_text_rules.specs.tree_rules.Accepted.{first_node, Proves, IsAccepted};
+ghost use Rattle.tree_text_rules.specs.tree_rules.Costs.{CostsEnough};
+ghost use Rattle.charges.specs.pgraph.View.{node_of};
 ghost use Rattle.branch_tree.specs.View.{claim_of};
 ghost use Rattle.cert_check.specs.Known.{KnowsInside};
 ghost use Rattle.cert_check.specs.Shown.{cost_over};
@@ -15,20 +15,17 @@ ghost use Rattle.tree_text_rules.specs.OpenLeaves.{open_leaves};
 ghost use Rattle.cert_check.specs.Bare.{BarePasses, BareFails};
 ghost use Rattle.cert_check.specs.OpenLeaves.{leaves_at, AreBefore};
 ghost use Rattle.cert_check.specs.Refusals.{NamesFault, IsOkOrMemory, NamesClaim, NamesNode};
-ghost use Rattle.tree_rules.specs.Refusals.{Refuses};
+ghost use Rattle.tree_text_rules.specs.tree_rules.Refusals.{Refuses};
 
 use crate::claim::{cost_of_claim, judge_claim};
 use crate::open_leaf::OpenLeaf;
 use crate::visit::Judge;
 use crate::walk::{Stop, walk, walk_to};
 use branch_tree::{Claim, Tree};
-use charges::Facts;
-use exact_numbers::CostOver;
-use pgraph::Site;
+use charges::{CostOver, Facts, Node, Site, UnitSet};
 use std::alloc::Global;
 use tree_laws::{accepted_is_optimal, claim_has_one_fault, tree_has_one_fault};
-use tree_rules::Refusal;
-use unit_sets::{Node, UnitSet};
+use tree_text_rules::Refusal;
 
 /// Judges the claim, and then the tree from the start, and gives the open leaves in preorder. In a
 /// partial tree leaves may be open, and a claim of nothing passes.

@@ -1,14 +1,13 @@
 //! The children of a branch.
 ghost use Rattle.std.specs.Prelude.{◌≡◌, ◌<◌, ◌++◌, map, OnOk};
-ghost use Rattle.pns_rules.specs.Nodes.{child};
-ghost use Rattle.pgraph.specs.Tables.{shape};
-ghost use Rattle.pgraph.specs.View.{node_of};
+ghost use Rattle.tree_text_rules.specs.pns_rules.Nodes.{child};
+ghost use Rattle.charges.specs.pgraph.Tables.{shape};
+ghost use Rattle.charges.specs.pgraph.View.{node_of};
 ghost use Rattle.cert_check.specs.Subtrees.{stack_of};
 
 use crate::child;
-use pgraph::Graph;
+use charges::{Graph, Node, UnitSet};
 use std::alloc::AllocError;
-use unit_sets::{Node, UnitSet};
 
 /// Puts the children of the options on the stack, the first on top.
 pub(crate) fn push_children(

@@ -1,16 +1,15 @@
 //! Claims.
 ghost use Rattle.std.specs.Prelude.{◌≡◌, ◌↔◌, Err, IsOk, OnOk, IfErr, false};
-ghost use Rattle.tree_rules.specs.declared.why.Why.{Why};
-ghost use Rattle.tree_rules.specs.Claim.{claimed_cost, ClaimPasses, ClaimFails};
+ghost use Rattle.tree_text_rules.specs.tree_rules.declared.why.Why.{Why};
+ghost use Rattle.tree_text_rules.specs.tree_rules.Claim.{claimed_cost, ClaimPasses, ClaimFails};
 ghost use Rattle.branch_tree.specs.View.{claim_of};
 ghost use Rattle.cert_check.specs.Shown.{cost_over};
 
-use branch_tree::Claim;
 use crate::judge_network;
-use exact_numbers::CostOver;
-use pgraph::Site;
+use branch_tree::Claim;
+use charges::{CostOver, Site};
 use tree_laws::claim_has_one_fault;
-use tree_rules::Why;
+use tree_text_rules::Why;
 
 /// The cost that is claimed, if the claim has a network.
 pub(crate) fn cost_of_claim(claim: &Claim) -> Option<CostOver>

@@ -1,13 +1,12 @@
 //! Branching in two at one unit: it goes in, or it goes out.
 ghost use Rattle.std.specs.Prelude.{◌≡◌, ◌<◌, ◌↔◌, [], ◌∷◌, IsTrue};
-ghost use Rattle.pns_rules.specs.Shape.{Shape};
-ghost use Rattle.tree_rules.specs.Ways.{either, MayBranch, options_at, child_at};
-ghost use Rattle.pgraph.specs.Tables.{shape};
-ghost use Rattle.pgraph.specs.View.{node_of};
+ghost use Rattle.tree_text_rules.specs.pns_rules.Shape.{Shape};
+ghost use Rattle.tree_text_rules.specs.tree_rules.Ways.{either, MayBranch, options_at, child_at};
+ghost use Rattle.charges.specs.pgraph.Tables.{shape};
+ghost use Rattle.charges.specs.pgraph.View.{node_of};
 
 use crate::steps::is_free;
-use pgraph::Graph;
-use unit_sets::{Node, UnitSet};
+use charges::{Graph, Node, UnitSet};
 
 /// Whether these are the two options of a unit: the unit alone, and nothing.
 fn are_in_and_out(u: u32, found: &[UnitSet]) -> bool

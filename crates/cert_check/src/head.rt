@@ -1,21 +1,20 @@
 //! The lines of a head, one after another.
 ghost use Rattle.std.specs.Prelude.{◌≡◌, IfOk, IfErr};
-ghost use Rattle.pns_rules.specs.Shape.{shape_of};
-ghost use Rattle.pgraph.specs.View.{node_of};
-ghost use Rattle.tree_rules.specs.Accepted.{first_node};
+ghost use Rattle.tree_text_rules.specs.pns_rules.Shape.{shape_of};
+ghost use Rattle.charges.specs.pgraph.View.{node_of};
+ghost use Rattle.tree_text_rules.specs.tree_rules.Accepted.{first_node};
 ghost use Rattle.cert_check.specs.Known.{KnowsInside};
 ghost use Rattle.cert_check.specs.Shown.{cost_over};
-ghost use Rattle.tree_rules.specs.Head.{known_first, after_lines, LinesPass};
-ghost use Rattle.tree_rules.specs.HeadFaults.{IsFirstToFail};
+ghost use Rattle.tree_text_rules.specs.tree_rules.Head.{known_first, after_lines, LinesPass};
+ghost use Rattle.tree_text_rules.specs.tree_rules.HeadFaults.{IsFirstToFail};
 ghost use Rattle.branch_tree.specs.HeadView.{lines_of};
 ghost use Rattle.cert_check.specs.View.{known_of};
 
 use crate::known::Known;
 use crate::line::judge_line;
-use exact_numbers::CostOver;
 use branch_tree::HeadLine;
-use tree_rules::LineWhy;
-use pgraph::Site;
+use charges::{CostOver, Site};
+use tree_text_rules::LineWhy;
 
 /// The first line of a head that fails, counted from 0, and why.
 #[derive(Clone, Copy, Debug, PartialEq, Eq)]

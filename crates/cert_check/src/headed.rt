@@ -1,33 +1,29 @@
 //! Claims with trees that may have a head.
 ghost use Rattle.std.specs.Prelude.{◌≡◌, ◌<◌, ◌^◌, ◌∷◌, [], ℕ, Bool, true, false, length, OnOk};
 ghost use Rattle.std.specs.Prelude.{IfErr};
-ghost use Rattle.pns_rules.specs.Shape.{shape_of};
-ghost use Rattle.pns_rules.specs.Structure.{IsStructure, IsAllowed};
-ghost use Rattle.tree_rules.specs.Tree.{Pass};
-ghost use Rattle.tree_rules.specs.Claim as claims;
-ghost use Rattle.tree_rules.specs.Costs.{CostsEnough};
-ghost use Rattle.pgraph.specs.View.{node_of};
+ghost use Rattle.tree_text_rules.specs.pns_rules.Shape.{shape_of};
+ghost use Rattle.tree_text_rules.specs.pns_rules.Structure.{IsStructure, IsAllowed};
+ghost use Rattle.tree_text_rules.specs.tree_rules.Tree.{Pass};
+ghost use Rattle.tree_text_rules.specs.tree_rules.Claim as claims;
+ghost use Rattle.tree_text_rules.specs.tree_rules.Costs.{CostsEnough};
+ghost use Rattle.charges.specs.pgraph.View.{node_of};
 ghost use Rattle.branch_tree.specs.View.{claim_of};
 ghost use Rattle.charges.specs.Known.{facts_of};
 ghost use Rattle.cert_check.specs.Known.{KnowsInside};
 ghost use Rattle.cert_check.specs.Shown.{cost_over};
-ghost use Rattle.tree_rules.specs.Headed as rules;
-ghost use Rattle.tree_rules.specs.Headed.{head_node, IsAcceptedBy, RefusesBy};
+ghost use Rattle.tree_text_rules.specs.tree_rules.Headed as rules;
+ghost use Rattle.tree_text_rules.specs.tree_rules.Headed.{head_node, IsAcceptedBy, RefusesBy};
 ghost use Rattle.cert_check.specs.Headed.{IsOkOrMemoryBy, NamesFaultBy, refusal_by};
 
 use crate::claim::{cost_of_claim, judge_claim};
 use crate::visit::Judge;
 use crate::walk::walk;
-use branch_tree::{Claim, Tree};
-use exact_numbers::CostOver;
 use crate::{Known, judge_head};
-use tree_laws::{accepted_by_is_optimal, tree_has_one_fault_by};
-use branch_tree::Head;
-use tree_rules::{HeadRefusal, one_fault};
-use pgraph::Site;
+use branch_tree::{Claim, Head, Tree};
+use charges::{CostOver, Site};
 use std::alloc::Global;
-use tree_laws::claim_has_one_fault;
-use tree_rules::Refusal as NodeRefusal;
+use tree_laws::{accepted_by_is_optimal, claim_has_one_fault, tree_has_one_fault_by};
+use tree_text_rules::{HeadRefusal, Refusal as NodeRefusal, one_fault};
 
 /// Why the nodes of a tree with a head are refused.
 fn refusal_by(refusal: NodeRefusal) -> HeadRefusal

@@ -1,13 +1,11 @@
 //! What is known at the place of a line.
 ghost use Rattle.std.specs.Prelude.{◌≡◌, ◌<◌};
-ghost use Rattle.tree_rules.specs.Accepted.{first_node};
-ghost use Rattle.tree_rules.specs.Head as rules;
-ghost use Rattle.pgraph.specs.View.{node_of};
+ghost use Rattle.tree_text_rules.specs.tree_rules.Accepted.{first_node};
+ghost use Rattle.tree_text_rules.specs.tree_rules.Head as rules;
+ghost use Rattle.charges.specs.pgraph.View.{node_of};
 ghost use Rattle.cert_check.specs.View.{known_of};
 
-use charges::Facts;
-use pns_problem::Problem;
-use unit_sets::{Node, UnitSet};
+use charges::{Facts, Node, Problem, UnitSet};
 
 /// The node, and facts of the flows that matter there.
 #[derive(Clone, Copy)]

@@ -1,28 +1,25 @@
 //! The leaves of a tree.
 ghost use Rattle.std.specs.Prelude.{◌≡◌, Bool, Option, OnOk, IfErr};
-ghost use Rattle.pns_rules.specs.Shape.{shape_of};
-ghost use Rattle.tree_rules.specs.Tree.{leaf};
-ghost use Rattle.tree_rules.specs.Claim as claims;
-ghost use Rattle.tree_rules.specs.Leaf.{Leaf, charged, untried, LeafPasses, LeafFails, why_of};
-ghost use Rattle.tree_rules.specs.Headed.{LeafPassesBy, LeafFailsBy};
+ghost use Rattle.tree_text_rules.specs.pns_rules.Shape.{shape_of};
+ghost use Rattle.tree_text_rules.specs.tree_rules.Tree.{leaf};
+ghost use Rattle.tree_text_rules.specs.tree_rules.Claim as claims;
+ghost use Rattle.tree_text_rules.specs.tree_rules.Leaf.{Leaf, charged, untried, LeafPasses};
+ghost use Rattle.tree_text_rules.specs.tree_rules.Leaf.{LeafFails, why_of};
+ghost use Rattle.tree_text_rules.specs.tree_rules.Headed.{LeafPassesBy, LeafFailsBy};
 ghost use Rattle.charges.specs.Known.{facts_of};
-ghost use Rattle.pgraph.specs.View.{node_of};
+ghost use Rattle.charges.specs.pgraph.View.{node_of};
 ghost use Rattle.branch_tree.specs.View.{end_of};
 ghost use Rattle.cert_check.specs.Visits.{leaf_passes, leaf_fails};
 ghost use Rattle.cert_check.specs.Known.{KnowsInside};
 ghost use Rattle.cert_check.specs.Shown.{cost_over};
 
 use crate::visit::Judge;
-use branch_tree::{End, Scaled};
 use crate::{
     judge_bound, judge_charge, judge_clash, judge_dead, judge_low, judge_open, judge_refutation,
 };
-use flow_rules::ChargeWhy;
-use charges::Charge;
-use pgraph::Covers;
-use pgraph::Site;
-use tree_rules::Why;
-use unit_sets::Node;
+use branch_tree::{End, Scaled};
+use charges::{Charge, Covers, Node, Site};
+use tree_text_rules::{ChargeWhy, Why};
 
 /// The cause of a charge that fails, as that of its leaf.
 fn why_of(why: ChargeWhy) -> Why

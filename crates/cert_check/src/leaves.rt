@@ -1,26 +1,23 @@
 //! The leaves of a tree, judged at their nodes.
 ghost use Rattle.std.specs.Prelude.{◌≡◌, ◌↔◌, ◌≤ℤ◌, ℕ, pos, Bool, length, Option, Some, None};
 ghost use Rattle.std.specs.Prelude.{IsTrue, OnOk, IfErr};
-ghost use Rattle.pns_rules.specs.Shape.{shape_of};
-ghost use Rattle.pns_rules.specs.Structure.{Clashes};
-ghost use Rattle.flow_rules.specs.Net.{net_of};
-ghost use Rattle.flow_rules.specs.Relaxed.{rows};
-ghost use Rattle.tree_rules.specs.Claim as claims;
-ghost use Rattle.tree_rules.specs.Leaf.{dead, clash, refuted, bounded, untried, IsOneEach};
-ghost use Rattle.tree_rules.specs.Leaf.{LeafPasses, LeafFails};
-ghost use Rattle.pgraph.specs.Tables.{shape};
-ghost use Rattle.pgraph.specs.View.{node_of};
+ghost use Rattle.tree_text_rules.specs.pns_rules.Shape.{shape_of};
+ghost use Rattle.tree_text_rules.specs.pns_rules.Structure.{Clashes};
+ghost use Rattle.tree_text_rules.specs.flow_rules.Net.{net_of};
+ghost use Rattle.tree_text_rules.specs.flow_rules.Relaxed.{rows};
+ghost use Rattle.tree_text_rules.specs.tree_rules.Claim as claims;
+ghost use Rattle.tree_text_rules.specs.tree_rules.Leaf.{dead, clash, refuted, bounded, untried};
+ghost use Rattle.tree_text_rules.specs.tree_rules.Leaf.{IsOneEach};
+ghost use Rattle.tree_text_rules.specs.tree_rules.Leaf.{LeafPasses, LeafFails};
+ghost use Rattle.charges.specs.pgraph.Tables.{shape};
+ghost use Rattle.charges.specs.pgraph.View.{node_of};
 ghost use Rattle.cert_check.specs.Known.{KnowsInside};
 ghost use Rattle.cert_check.specs.Shown.{cost_over};
 
 use crate::materials::is_dead;
 use crate::sets::units_left;
-use flow_program::{bound_of, refutes};
-use exact_numbers::CostOver;
-use pgraph::{Graph, Site};
-use pns_problem::Problem;
-use tree_rules::Why;
-use unit_sets::Node;
+use charges::{CostOver, Graph, Node, Problem, Site, bound_of, refutes};
+use tree_text_rules::Why;
 
 /// A leaf that is dead at the material.
 pub fn judge_dead(site: &Site<'_>, node: &Node, x: u32) -> Result<(), Why>

@@ -66,7 +66,14 @@ mod uses;
 mod visit;
 mod walk;
 
+pub use branch_tree::{End, Network, Scaled, Steps, Tail, Tree, TreeNode};
 pub use charge::judge_charge;
+pub use charges::{
+    CostOver, Exclusion, Facts, Frac, Graph, Kind, MatSet, Material, Mixed, Node, NodeSets,
+    OpenFault, OperatingUnit, Problem, Site, StructureList, Term, UnitSet, by_material,
+    checked_product, generate, maximal, print_token, put_rates, rate_of, read_token, sets_of,
+    unit_numbers,
+};
 pub use check::{check_from, check_nodes, check_tree};
 pub use claim::check_claim;
 pub use either::{are_options_of_unit, with_unit, without_unit};
@@ -78,4 +85,13 @@ pub use line::judge_line;
 pub use network::judge_network;
 pub use nodes::{after_steps, are_all_options, child};
 pub use open_leaf::OpenLeaf;
+pub use tree_laws::{
+    accepted_by_has_flows, accepted_by_is_optimal, accepted_is_optimal, capped_claim, capped_shape,
+    claim_has_one_fault, empty_head_is_none, lower_bound_holds, open_leaves_decide,
+    recharged_is_lean, recharged_is_tree, recharged_knows, tree_has_one_fault,
+    tree_has_one_fault_by,
+};
+pub use tree_text_rules::{
+    Axiom, HeadRefusal, Section, Verdict, one_fault, valid_is_proper, valid_is_well_formed,
+};
 pub use walk::Stop;

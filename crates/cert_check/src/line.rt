@@ -1,27 +1,24 @@
 //! One line of a head.
 ghost use Rattle.std.specs.Prelude.{◌≡◌, IfOk, IfErr};
-ghost use Rattle.pns_rules.specs.Shape.{shape_of};
-ghost use Rattle.pgraph.specs.View.{node_of, step_of};
+ghost use Rattle.tree_text_rules.specs.pns_rules.Shape.{shape_of};
+ghost use Rattle.charges.specs.pgraph.View.{node_of, step_of};
 ghost use Rattle.charges.specs.Known.{demand_of};
 ghost use Rattle.cert_check.specs.Known.{KnowsInside};
 ghost use Rattle.cert_check.specs.Shown.{cost_over};
-ghost use Rattle.tree_rules.specs.Head.{step, cap, out, trim, uses};
+ghost use Rattle.tree_text_rules.specs.tree_rules.Head.{step, cap, out, trim, uses};
 ghost use Rattle.branch_tree.specs.HeadView.{line_of};
 ghost use Rattle.cert_check.specs.View.{known_of};
 ghost use Rattle.cert_check.specs.Lines.{IsJudged, Fails};
 
+use crate::after_steps;
 use crate::charged::{Given, judge_charged};
 use crate::known::{Known, with_in, with_out};
 use crate::sizes::size_of_cap;
 use crate::trim::trimmed;
 use crate::uses::amount_of_use;
-use crate::after_steps;
-use charges::{Demand, is_free};
-use exact_numbers::CostOver;
 use branch_tree::HeadLine;
-use tree_rules::LineWhy;
-use pgraph::Site;
-use unit_sets::Step;
+use charges::{CostOver, Demand, Site, Step, is_free};
+use tree_text_rules::LineWhy;
 
 /// Judges a step.
 fn judge_step(

@@ -1,13 +1,12 @@
 //! What a node needs, and which units are left to make and to use it.
 ghost use Rattle.std.specs.Prelude.{◌≡◌, ◌<◌, ◌↔◌, ℕ, true, false, IsTrue};
-ghost use Rattle.number_sets.specs.Sets.{has};
-ghost use Rattle.pns_rules.specs.Structure.{is_needed};
-ghost use Rattle.pns_rules.specs.Ends.{IsDead};
-ghost use Rattle.pgraph.specs.Tables.{shape};
-ghost use Rattle.pgraph.specs.View.{node_of};
+ghost use Rattle.tree_text_rules.specs.number_sets.Sets.{has};
+ghost use Rattle.tree_text_rules.specs.pns_rules.Structure.{is_needed};
+ghost use Rattle.tree_text_rules.specs.pns_rules.Ends.{IsDead};
+ghost use Rattle.charges.specs.pgraph.Tables.{shape};
+ghost use Rattle.charges.specs.pgraph.View.{node_of};
 
-use pgraph::Graph;
-use unit_sets::{Node, UnitSet};
+use charges::{Graph, Node, UnitSet};
 
 /// Whether the material is a product, or an input of a unit of the set and not raw.
 pub(crate) fn is_needed(graph: &Graph, set: UnitSet, x: u32) -> bool

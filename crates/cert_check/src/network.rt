@@ -1,12 +1,9 @@
 //! The network of a claim.
 ghost use Rattle.std.specs.Prelude.{◌≡◌, ◌↔◌, ◌≤ℤ◌, pos, Bool, length, IsTrue, OnOk, IfErr};
-ghost use Rattle.tree_rules.specs.Claim.{network, IsFeasible, ClaimFails};
+ghost use Rattle.tree_text_rules.specs.tree_rules.Claim.{network, IsFeasible, ClaimFails};
 
-use flow_program::{cost_of, feasible};
-use pgraph::Site;
-use pns_rules::Verdict;
-use tree_rules::Why;
-use unit_sets::UnitSet;
+use charges::{Site, UnitSet, cost_of, feasible};
+use tree_text_rules::{Verdict, Why};
 
 /// Whether the costs are the same.
 fn are_same(a: i128, b: i128) -> bool

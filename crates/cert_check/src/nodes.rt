@@ -1,18 +1,17 @@
 //! The nodes that steps and options leave.
 ghost use Rattle.std.specs.Prelude.{◌≡◌, ◌<◌, ◌↔◌, ℕ, true, map, IsTrue, IfSome, IfNone};
-ghost use Rattle.number_sets.specs.Sets.{has};
-ghost use Rattle.pns_rules.specs.Structure.{is_needed};
-ghost use Rattle.pns_rules.specs.Nodes.{IsPossible, after, options, child};
-ghost use Rattle.tree_rules.specs.Tree.{StepsPass, after_all};
-ghost use Rattle.pgraph.specs.Tables.{shape};
-ghost use Rattle.pgraph.specs.View.{node_of, step_of};
+ghost use Rattle.tree_text_rules.specs.number_sets.Sets.{has};
+ghost use Rattle.tree_text_rules.specs.pns_rules.Structure.{is_needed};
+ghost use Rattle.tree_text_rules.specs.pns_rules.Nodes.{IsPossible, after, options, child};
+ghost use Rattle.tree_text_rules.specs.tree_rules.Tree.{StepsPass, after_all};
+ghost use Rattle.charges.specs.pgraph.Tables.{shape};
+ghost use Rattle.charges.specs.pgraph.View.{node_of, step_of};
 ghost use Rattle.cert_check.specs.Known.{KnowsInside};
 
 use crate::materials::is_needed;
 use crate::options::are_options;
 use crate::steps::is_possible;
-use pgraph::Graph;
-use unit_sets::{Node, Step, UnitSet};
+use charges::{Graph, Node, Step, UnitSet};
 
 /// The node after a possible step.
 pub(crate) fn after(graph: &Graph, node: &Node, step: &Step) -> Node

@@ -1,13 +1,13 @@
 //! Open leaves.
 ghost use Rattle.std.specs.Prelude.{◌≡◌, ◌++◌, OnOk};
-ghost use Rattle.pgraph.specs.View.{node_of};
+ghost use Rattle.charges.specs.pgraph.View.{node_of};
 ghost use Rattle.branch_tree.specs.View.{end_of};
 ghost use Rattle.tree_text_rules.specs.OpenLeaves.{open_here};
 ghost use Rattle.cert_check.specs.OpenLeaves.{leaves_at};
 
 use branch_tree::End;
+use charges::Node;
 use std::alloc::AllocError;
-use unit_sets::Node;
 
 /// An open leaf of a tree: its number among all nodes, counted from 0 in preorder, and the node
 /// that its steps leave.

@@ -1,9 +1,9 @@
 //! The walk along the options.
 ghost use Rattle.std.specs.Prelude.{◌≡◌, ◌↔◌, IsTrue};
-ghost use Rattle.number_sets.specs.Sets.{has, Avoids};
-ghost use Rattle.number_sets.specs.Options.{all_options};
+ghost use Rattle.tree_text_rules.specs.number_sets.Sets.{has, Avoids};
+ghost use Rattle.tree_text_rules.specs.number_sets.Options.{all_options};
 
-use unit_sets::UnitSet;
+use charges::UnitSet;
 
 /// Whether the sets are all non-empty sets between the base and the base with free units, in
 /// numeric order. The time is linear in the number of the sets. It takes no memory.

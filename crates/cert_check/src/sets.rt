@@ -1,12 +1,11 @@
 //! Tests of sets, and the sets of a node.
 ghost use Rattle.std.specs.Prelude.{◌≡◌, ◌<◌, ◌↔◌, ℕ, true, false, IsTrue};
-ghost use Rattle.number_sets.specs.Sets.{has, Avoids};
-ghost use Rattle.pns_rules.specs.Nodes.{is_free};
-ghost use Rattle.pgraph.specs.Tables.{shape};
-ghost use Rattle.pgraph.specs.View.{node_of};
+ghost use Rattle.tree_text_rules.specs.number_sets.Sets.{has, Avoids};
+ghost use Rattle.tree_text_rules.specs.pns_rules.Nodes.{is_free};
+ghost use Rattle.charges.specs.pgraph.Tables.{shape};
+ghost use Rattle.charges.specs.pgraph.View.{node_of};
 
-use pgraph::Graph;
-use unit_sets::{MatSet, Node, UnitSet};
+use charges::{Graph, MatSet, Node, UnitSet};
 
 /// Whether no material is in both.
 pub(crate) fn are_apart(a: MatSet, b: MatSet) -> bool

@@ -1,11 +1,11 @@
 //! Sizes of units.
 ghost use Rattle.std.specs.Prelude.{◌≡◌, ◌<◌, ◌≤ℤ◌, length, IfSome, IfNone};
-ghost use Rattle.flow_rules.specs.Net.{net_of};
-ghost use Rattle.tree_rules.specs.HeadFaults.{IsSize};
+ghost use Rattle.tree_text_rules.specs.flow_rules.Net.{net_of};
+ghost use Rattle.tree_text_rules.specs.tree_rules.HeadFaults.{IsSize};
 ghost use Rattle.cert_check.specs.View.{known_of};
 
 use crate::known::Known;
-use pgraph::Site;
+use charges::Site;
 
 /// The least size of the unit.
 pub(crate) fn least_of(site: &Site<'_>, unit: u32) -> i64

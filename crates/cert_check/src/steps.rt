@@ -1,14 +1,14 @@
 //! Which steps are possible at a node.
 ghost use Rattle.std.specs.Prelude.{◌≡◌, ◌<◌, ◌↔◌, ℕ, true, false, IsTrue};
-ghost use Rattle.number_sets.specs.Sets.{has, IsWithin};
-ghost use Rattle.pns_rules.specs.Nodes.{is_free, raw, rival, starve, loose, sole, IsPossible};
-ghost use Rattle.pgraph.specs.Tables.{shape};
-ghost use Rattle.pgraph.specs.View.{node_of, step_of};
+ghost use Rattle.tree_text_rules.specs.number_sets.Sets.{has, IsWithin};
+ghost use Rattle.tree_text_rules.specs.pns_rules.Nodes.{is_free, raw, rival, starve, loose, sole};
+ghost use Rattle.tree_text_rules.specs.pns_rules.Nodes.{IsPossible};
+ghost use Rattle.charges.specs.pgraph.Tables.{shape};
+ghost use Rattle.charges.specs.pgraph.View.{node_of, step_of};
 
 use crate::materials::{is_needed, makers_left, users_left};
 use crate::sets::{are_apart, free_units, have_common, is_alone, is_some_apart, units_left};
-use pgraph::Graph;
-use unit_sets::{Node, Step, UnitSet};
+use charges::{Graph, Node, Step, UnitSet};
 
 /// Whether the unit is one of the graph, neither taken in nor left out.
 pub(crate) fn is_free(graph: &Graph, node: &Node, u: u32) -> bool

@@ -1,12 +1,12 @@
 //! The ends of subtrees, so that the children of a node are found without a walk through what is
 //! between them.
 ghost use Rattle.std.specs.Prelude.{◌≡◌, ◌≤◌, length, drop, IfOk, OnOk};
-ghost use Rattle.tree_rules.specs.Tree as trees;
+ghost use Rattle.tree_text_rules.specs.tree_rules.Tree as trees;
 ghost use Rattle.cert_check.specs.Subtrees.{AreEnds};
 
 use branch_tree::TreeNode;
+use charges::UnitSet;
 use std::alloc::{AllocError, Global};
-use unit_sets::UnitSet;
 
 /// What follows a node: the list of the tree's nodes from a place on, and the end of the subtree of
 /// each node.

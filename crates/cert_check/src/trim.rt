@@ -2,21 +2,21 @@
 ghost use Rattle.std.specs.Prelude.{◌≡◌, ◌<◌, ◌≤◌, ◌^◌, ◌*◌, ◌+ℤ◌, ◌≤ℤ◌, ◌<ℤ◌, ◌↔◌, ℕ, pos};
 ghost use Rattle.std.specs.Prelude.{int_lt, cond, length, unsigned_abs, IsTrue, IfSome, IfNone};
 ghost use Rattle.std.specs.Int.{int_max};
-ghost use Rattle.pns_rules.specs.Shape.{shape_of};
-ghost use Rattle.pgraph.specs.View.{node_of};
-ghost use Rattle.flow_rules.specs.Net.{net_of, size_cost};
-ghost use Rattle.flow_rules.specs.Relaxed as relaxed;
+ghost use Rattle.tree_text_rules.specs.pns_rules.Shape.{shape_of};
+ghost use Rattle.charges.specs.pgraph.View.{node_of};
+ghost use Rattle.tree_text_rules.specs.flow_rules.Net.{net_of, size_cost};
+ghost use Rattle.tree_text_rules.specs.flow_rules.Relaxed as relaxed;
 ghost use Rattle.charges.specs.Known.{facts_of};
 ghost use Rattle.cert_check.specs.Known.{KnowsInside};
-ghost use Rattle.tree_rules.specs.Trim as rules;
+ghost use Rattle.tree_text_rules.specs.tree_rules.Trim as rules;
 ghost use Rattle.cert_check.specs.Trims.{Bears};
 
 use crate::known::Known;
 use crate::sizes::{least_of, size_within};
-use charges::{costs_of, makers_most, most_used, rate_of, rounded_up};
-use flow_program::{full_range, put_rates, sets_of};
-use pgraph::Site;
-use unit_sets::UnitSet;
+use charges::{
+    Site, UnitSet, costs_of, full_range, makers_most, most_used, put_rates, rate_of, rounded_up,
+    sets_of,
+};
 
 /// What has to be left over and what can be used.
 fn both(low: i128, used: i128) -> i128

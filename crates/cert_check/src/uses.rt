@@ -1,18 +1,16 @@
 //! Uses of materials.
 ghost use Rattle.std.specs.Prelude.{◌≡◌, ◌<◌, ◌<ℤ◌, ◌↔◌, IsTrue, IfSome, IfNone};
-ghost use Rattle.pns_rules.specs.Shape.{shape_of};
-ghost use Rattle.pgraph.specs.View.{node_of};
+ghost use Rattle.tree_text_rules.specs.pns_rules.Shape.{shape_of};
+ghost use Rattle.charges.specs.pgraph.View.{node_of};
 ghost use Rattle.charges.specs.Known.{demand_of};
 ghost use Rattle.cert_check.specs.Known.{KnowsInside};
-ghost use Rattle.tree_rules.specs.HeadFaults.{IsUse};
+ghost use Rattle.tree_text_rules.specs.tree_rules.HeadFaults.{IsUse};
 ghost use Rattle.cert_check.specs.Uses.{IsInner};
 ghost use Rattle.cert_check.specs.View.{known_of};
 
 use crate::known::Known;
 use crate::sizes::size_within;
-use charges::Demand;
-use flow_program::sets_of;
-use pgraph::Site;
+use charges::{Demand, Site, sets_of};
 
 /// The greatest amount of a line, in millionths.
 const MOST: i64 = 1_000_000_000_000_000_000;

@@ -1,17 +1,17 @@
 //! One node on the walk.
 ghost use Rattle.std.specs.Prelude.{◌≡◌, ◌++◌, map, true, OnOk, IfOk, IfErr};
-ghost use Rattle.number_sets.specs.Sets.{has};
-ghost use Rattle.pns_rules.specs.Shape.{shape_of};
-ghost use Rattle.pns_rules.specs.Structure.{is_needed};
-ghost use Rattle.pns_rules.specs.Nodes.{options, child};
-ghost use Rattle.tree_rules.specs.declared.why.Why.TheVariants as causes;
-ghost use Rattle.tree_rules.specs.Tree as trees;
-ghost use Rattle.tree_rules.specs.Tree.{after_all, below, EndPasses};
-ghost use Rattle.tree_rules.specs.Ways.{at_material, either, MayBranch, options_at};
-ghost use Rattle.tree_rules.specs.Ways.{children_at};
-ghost use Rattle.tree_rules.specs.Fault.{EndFails, NodeFails};
-ghost use Rattle.pgraph.specs.Tables.{shape};
-ghost use Rattle.pgraph.specs.View.{node_of};
+ghost use Rattle.tree_text_rules.specs.number_sets.Sets.{has};
+ghost use Rattle.tree_text_rules.specs.pns_rules.Shape.{shape_of};
+ghost use Rattle.tree_text_rules.specs.pns_rules.Structure.{is_needed};
+ghost use Rattle.tree_text_rules.specs.pns_rules.Nodes.{options, child};
+ghost use Rattle.tree_text_rules.specs.tree_rules.declared.why.Why.TheVariants as causes;
+ghost use Rattle.tree_text_rules.specs.tree_rules.Tree as trees;
+ghost use Rattle.tree_text_rules.specs.tree_rules.Tree.{after_all, below, EndPasses};
+ghost use Rattle.tree_text_rules.specs.tree_rules.Ways.{at_material, either, MayBranch, options_at};
+ghost use Rattle.tree_text_rules.specs.tree_rules.Ways.{children_at};
+ghost use Rattle.tree_text_rules.specs.tree_rules.Fault.{EndFails, NodeFails};
+ghost use Rattle.charges.specs.pgraph.Tables.{shape};
+ghost use Rattle.charges.specs.pgraph.View.{node_of};
 ghost use Rattle.branch_tree.specs.View.{end_of};
 ghost use Rattle.cert_check.specs.Known.{KnowsInside};
 ghost use Rattle.cert_check.specs.Subtrees.{rest_of, HasEnds, stack_of};
@@ -22,13 +22,10 @@ ghost use Rattle.cert_check.specs.Visits.{Halts};
 use crate::children::push_children;
 use crate::leaf::judge_leaf_by;
 use crate::subtrees::{Behind, roots};
-use branch_tree::{End, TreeNode};
 use crate::{after_steps, are_all_options, are_options_of_unit, with_unit, without_unit};
-use charges::Facts;
-use exact_numbers::CostOver;
-use pgraph::{Graph, Site};
-use tree_rules::Why;
-use unit_sets::{Node, UnitSet};
+use branch_tree::{End, TreeNode};
+use charges::{CostOver, Facts, Graph, Node, Site, UnitSet};
+use tree_text_rules::Why;
 
 /// By what nodes are judged: the problem with its P-graph, the cost that is to be undercut, if
 /// there is one, what is known of sizes, whether leaves may be open, and whether the bounds of open

@@ -1,9 +1,9 @@
 //! The walk over a tree.
 ghost use Rattle.std.specs.Prelude.{◌≡◌, ◌<◌, ◌^◌, ◌∷◌, [], length, OnOk, IfOk, IfErr};
-ghost use Rattle.pns_rules.specs.Shape.{shape_of};
-ghost use Rattle.tree_rules.specs.declared.refusal.Refusal.TheVariants as refusals;
-ghost use Rattle.tree_rules.specs.Tree.{IsForest, Pass};
-ghost use Rattle.pgraph.specs.View.{node_of};
+ghost use Rattle.tree_text_rules.specs.pns_rules.Shape.{shape_of};
+ghost use Rattle.tree_text_rules.specs.tree_rules.declared.refusal.Refusal.TheVariants as refusals;
+ghost use Rattle.tree_text_rules.specs.tree_rules.Tree.{IsForest, Pass};
+ghost use Rattle.charges.specs.pgraph.View.{node_of};
 ghost use Rattle.cert_check.specs.Known.{KnowsInside};
 ghost use Rattle.tree_text_rules.specs.OpenLeaves.{open_leaves};
 ghost use Rattle.cert_check.specs.OpenLeaves.{leaves_at, AreBefore};
@@ -14,9 +14,9 @@ use crate::open_leaf::{OpenLeaf, note_end};
 use crate::subtrees::{Behind, ends_of};
 use crate::visit::{Halt, Judge, visit};
 use branch_tree::TreeNode;
+use charges::Node;
 use std::alloc::Global;
-use tree_rules::Refusal;
-use unit_sets::Node;
+use tree_text_rules::Refusal;
 
 /// A walk that stopped early: why, and the open leaves before that.
 #[derive(Drop)]

@@ -2,17 +2,17 @@
 use Rattle.std.proofs.Common.{◌≡◌, ℕ, Option, Some, None, Result, Ok, Err, IfOk, IfSome, List, []}
 use Rattle.std.proofs.Common.{◌∷◌, sym, ◌∙◌, arith, pos, ℤ, ◌*ℤ◌, ◌≤ℤ◌}
 use Rattle.std.proofs.lemmas.Int.{ints}
-use Rattle.integer_laws.specs.Range.{InRange}
-use Rattle.problem_rules.specs.Problem.{Problem}
-use Rattle.pns_rules.specs.Nodes.{Node}
-use Rattle.exact_numbers.specs.declared.number.Mixed.{Mixed}
-use Rattle.exact_numbers.specs.Number.{numerator, denominator}
-use Rattle.flow_rules.specs.Net.{net_of}
-use Rattle.flow_rules.specs.Relaxed.{IsRelaxed, relaxed_cost, bound}
-use Rattle.flow_rules.specs.Laws.{RelaxedDuality}
-use Rattle.flow_rules.specs.Steps.{AreInRange, last_from}
-use Rattle.tree_rules.specs.Claim.{Network, CostOver}
-use Rattle.tree_rules.specs.Leaf.{IsBounded, IsOneEach, IsFormed, multiplier}
+use Rattle.scaled_flows.specs.integer_laws.Range.{InRange}
+use Rattle.scaled_flows.specs.problem_rules.Problem.{Problem}
+use Rattle.scaled_flows.specs.pns_rules.Nodes.{Node}
+use Rattle.scaled_flows.specs.exact_numbers.declared.number.Mixed.{Mixed}
+use Rattle.scaled_flows.specs.exact_numbers.Number.{numerator, denominator}
+use Rattle.scaled_flows.specs.flow_rules.Net.{net_of}
+use Rattle.scaled_flows.specs.flow_rules.Relaxed.{IsRelaxed, relaxed_cost, bound}
+use Rattle.scaled_flows.specs.flow_rules.Laws.{RelaxedDuality}
+use Rattle.scaled_flows.specs.flow_rules.Steps.{AreInRange, last_from}
+use Rattle.scaled_flows.specs.tree_rules.Claim.{Network, CostOver}
+use Rattle.scaled_flows.specs.tree_rules.Leaf.{IsBounded, IsOneEach, IsFormed, multiplier}
 use Rattle.scaled_flows.specs.LeastCost.{IsLeastCost}
 use Rattle.certified_bounds.specs.Certified.{cost_over}
 use Rattle.certified_bounds.proofs.FractionLemmas.{no_more_of_same, through}

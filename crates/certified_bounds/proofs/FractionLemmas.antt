@@ -5,11 +5,10 @@ use Rattle.std.specs.declared.cmp.Ordering.{Ordering}
 use Rattle.std.specs.declared.cmp.Ordering.TheVariants.{Less, Equal, Greater}
 use Rattle.std.proofs.lemmas.Cmp.{int_ranked}
 use Rattle.std.proofs.lemmas.Int.{ints}
-use Rattle.exact_numbers.specs.declared.number.Mixed.{Mixed}
-use Rattle.exact_numbers.specs.Number.{denominator}
-use Rattle.exact_numbers.specs.MixedOrderLaws.{denominator_positive}
-use Rattle.integer_laws.proofs.Ring.{ring_z}
-use Rattle.integer_laws.proofs.Order.{mul-le_right, cancel_le}
+use Rattle.scaled_flows.specs.exact_numbers.declared.number.Mixed.{Mixed}
+use Rattle.scaled_flows.specs.exact_numbers.Number.{denominator}
+use Rattle.scaled_flows.specs.exact_numbers.MixedOrderLaws.{denominator_positive}
+use Rattle.scaled_flows.proofs.integer_laws.Cited.{ring_z, mul-le_right, cancel_le}
 
 pub no_more_of_same : (a b : ℤ) → a ≡ b → a ≤ℤ b
 no_more_of_same a b e = omega (arith, ints)

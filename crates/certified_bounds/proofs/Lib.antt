@@ -1,2 +1,3 @@
+pub mod Cited
 pub mod FractionLemmas
 pub mod BoundLemmas

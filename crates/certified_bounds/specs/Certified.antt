@@ -2,17 +2,17 @@
 -- multipliers prove, a network of that cost, multipliers that refute the node, or nothing. Further
 -- answers are two costs between which the least lies, and a cost below the least.
 use Rattle.std.specs.Prelude.{◌≡◌, ℕ, ℤ, pos, ◌≤ℤ◌, ◌*ℤ◌, Bool, true, false, Some}
-use Rattle.number_sets.specs.Sets.{has}
-use Rattle.problem_rules.specs.Problem.{Problem}
-use Rattle.pns_rules.specs.Nodes.{Node}
-use Rattle.exact_numbers.specs.declared.number.Mixed.{Mixed}
-use Rattle.exact_numbers.specs.Number.{numerator, denominator}
-use Rattle.flow_rules.specs.Net.{net_of}
-use Rattle.flow_rules.specs.Relaxed.{IsRelaxed, relaxed_cost}
+use Rattle.scaled_flows.specs.number_sets.Sets.{has}
+use Rattle.scaled_flows.specs.problem_rules.Problem.{Problem}
+use Rattle.scaled_flows.specs.pns_rules.Nodes.{Node}
+use Rattle.scaled_flows.specs.exact_numbers.declared.number.Mixed.{Mixed}
+use Rattle.scaled_flows.specs.exact_numbers.Number.{numerator, denominator}
+use Rattle.scaled_flows.specs.flow_rules.Net.{net_of}
+use Rattle.scaled_flows.specs.flow_rules.Relaxed.{IsRelaxed, relaxed_cost}
 use Rattle.scaled_flows.specs.LeastCost.{IsLeastCost}
-use Rattle.tree_rules.specs.Claim.{Network, CostOver, IsFeasible}
-use Rattle.tree_rules.specs.Leaf.{IsRefuted, IsBounded}
-use Rattle.tree_rules.specs.Lean.{HasCheaper}
+use Rattle.scaled_flows.specs.tree_rules.Claim.{Network, CostOver, IsFeasible}
+use Rattle.scaled_flows.specs.tree_rules.Leaf.{IsRefuted, IsBounded}
+use Rattle.scaled_flows.specs.tree_rules.Lean.{HasCheaper}
 use Rattle.certified_bounds.specs.declared.certified.LeastBound.{LeastBound}
 use Rattle.certified_bounds.specs.declared.certified.Between.{Between}
 use Rattle.certified_bounds.specs.declared.certified.LowBound.{LowBound}

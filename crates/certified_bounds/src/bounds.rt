@@ -1,14 +1,14 @@
 //! The calls that value the nodes of a problem.
 ghost use Rattle.std.specs.Prelude.{◌≡◌, true, false, Some, IfOk, IfSome, OnOk};
-ghost use Rattle.pns_rules.specs.Shape.{shape_of};
-ghost use Rattle.pns_rules.specs.Ends.{IsSound, IsDecided};
-ghost use Rattle.pgraph.specs.View.{node_of};
-ghost use Rattle.exact_numbers.specs.Number.{numerator, denominator};
-ghost use Rattle.flow_rules.specs.Net.{net_of};
+ghost use Rattle.scaled_flows.specs.pns_rules.Shape.{shape_of};
+ghost use Rattle.scaled_flows.specs.pns_rules.Ends.{IsSound, IsDecided};
+ghost use Rattle.scaled_flows.specs.pgraph.View.{node_of};
+ghost use Rattle.scaled_flows.specs.exact_numbers.Number.{numerator, denominator};
+ghost use Rattle.scaled_flows.specs.flow_rules.Net.{net_of};
 ghost use Rattle.scaled_flows.specs.Divisors.{AreDivisors};
 ghost use Rattle.scaled_flows.specs.LeastCost.{IsLeastCost};
-ghost use Rattle.tree_rules.specs.Leaf.{IsBounded};
-ghost use Rattle.tree_rules.specs.Lean.{HasCheaper};
+ghost use Rattle.scaled_flows.specs.tree_rules.Leaf.{IsBounded};
+ghost use Rattle.scaled_flows.specs.tree_rules.Lean.{HasCheaper};
 ghost use Rattle.certified_bounds.specs.Certified.{IsBetween, IsCertified, IsFirstBound};
 
 use crate::certified::{Between, Certified, FirstBound};
@@ -17,12 +17,9 @@ use crate::lows::{first_low, least, low_to, proving};
 use crate::proposals::{Proposals, Proposed};
 use crate::refutations::{first_refuted, refuted};
 use branch_tree::{Network, Scaled};
-use exact_numbers::Mixed;
-use pgraph::Site;
-use scaled_flows::{Scales, cost_of_sizes, least_value};
+use scaled_flows::{Mixed, Node, Scales, Site, cost_of_sizes, least_value};
 use std::alloc::{AllocError, Global};
 use std::marker::Model;
-use unit_sets::Node;
 
 /// Values the nodes of a problem by guesses that are judged exactly. Contracts see the common
 /// divisors of the problem's numbers.

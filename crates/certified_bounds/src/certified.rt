@@ -1,6 +1,6 @@
 //! The answers for a node.
 use branch_tree::{Multipliers, Network, Scaled};
-use exact_numbers::Mixed;
+use scaled_flows::Mixed;
 
 /// The least cost of relaxed flows, and a bound of it with the multipliers over their scale that
 /// prove it: all costs are in 10^-18 of the money unit times the payout period.

@@ -1,9 +1,9 @@
 //! The network of a node at which all is decided.
 ghost use Rattle.std.specs.Prelude.{◌≡◌, true, IfOk, IfSome};
-ghost use Rattle.pns_rules.specs.Shape.{shape_of};
-ghost use Rattle.pns_rules.specs.Ends.{IsSound, IsDecided};
-ghost use Rattle.pgraph.specs.View.{node_of};
-ghost use Rattle.exact_numbers.specs.Number.{numerator, denominator};
+ghost use Rattle.scaled_flows.specs.pns_rules.Shape.{shape_of};
+ghost use Rattle.scaled_flows.specs.pns_rules.Ends.{IsSound, IsDecided};
+ghost use Rattle.scaled_flows.specs.pgraph.View.{node_of};
+ghost use Rattle.scaled_flows.specs.exact_numbers.Number.{numerator, denominator};
 ghost use Rattle.scaled_flows.specs.LeastCost.{IsLeastCost};
 ghost use Rattle.certified_bounds.specs.Certified.{IsCertified, IsNetworkAt};
 
@@ -12,10 +12,8 @@ use crate::judged::cost_of_network;
 use crate::lows::exact;
 use crate::proposals::Proposals;
 use branch_tree::Network;
-use exact_numbers::Mixed;
-use pgraph::Site;
+use scaled_flows::{Mixed, Node, Site};
 use std::alloc::{AllocError, Global};
-use unit_sets::Node;
 
 /// After `Optimum`, if all is decided: the network of the sizes, if it costs just the value.
 fn network_at(

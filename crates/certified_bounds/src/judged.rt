@@ -1,23 +1,21 @@
 //! The checks on which each answer for a node rests.
 ghost use Rattle.std.specs.Prelude.{◌≡◌, ◌<◌, ◌≤ℤ◌, ℕ, pos, true, length, Some, IsTrue, IfSome};
-ghost use Rattle.integer_laws.specs.Range.{InRange};
-ghost use Rattle.number_sets.specs.Sets.{has};
-ghost use Rattle.problem_rules.specs.Problem.{Problem};
-ghost use Rattle.pns_rules.specs.Shape.{shape_of};
-ghost use Rattle.pns_rules.specs.Ends.{IsSound, IsDecided};
-ghost use Rattle.pgraph.specs.Tables.{shape};
-ghost use Rattle.pgraph.specs.View.{node_of};
-ghost use Rattle.flow_rules.specs.Net.{net_of};
-ghost use Rattle.flow_rules.specs.Relaxed.{rows};
-ghost use Rattle.tree_rules.specs.Claim.{IsFeasible};
-ghost use Rattle.tree_rules.specs.Leaf.{IsBounded, IsRefuted};
+ghost use Rattle.scaled_flows.specs.integer_laws.Range.{InRange};
+ghost use Rattle.scaled_flows.specs.number_sets.Sets.{has};
+ghost use Rattle.scaled_flows.specs.problem_rules.Problem.{Problem};
+ghost use Rattle.scaled_flows.specs.pns_rules.Shape.{shape_of};
+ghost use Rattle.scaled_flows.specs.pns_rules.Ends.{IsSound, IsDecided};
+ghost use Rattle.scaled_flows.specs.pgraph.Tables.{shape};
+ghost use Rattle.scaled_flows.specs.pgraph.View.{node_of};
+ghost use Rattle.scaled_flows.specs.flow_rules.Net.{net_of};
+ghost use Rattle.scaled_flows.specs.flow_rules.Relaxed.{rows};
+ghost use Rattle.scaled_flows.specs.tree_rules.Claim.{IsFeasible};
+ghost use Rattle.scaled_flows.specs.tree_rules.Leaf.{IsBounded, IsRefuted};
 ghost use Rattle.certified_bounds.specs.Certified.{cost_over};
 
-use flow_program::{bound_of, cost_of, feasible, refutes, sets_of};
-use flow_rules::sums_are_last;
-use exact_numbers::Mixed;
-use pgraph::{Graph, Site};
-use unit_sets::Node;
+use scaled_flows::{
+    Graph, Mixed, Node, Site, bound_of, cost_of, feasible, refutes, sets_of, sums_are_last,
+};
 
 /// How many rows the program of the node has.
 fn row_count(graph: &Graph, node: &Node) -> usize

@@ -28,5 +28,9 @@ mod proposals;
 mod refutations;
 mod rounding;
 
+pub use basis_guess::{
+    Bound, Charge, ChargeGuess, Facts, Proposal, Range, Ready, Steps, Use, User, charge_of,
+    covers_node, is_cover,
+};
 pub use bounds::CertifiedBounds;
 pub use certified::{Between, Certified, FirstBound, LeastBound, LowBound};

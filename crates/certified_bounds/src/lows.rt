@@ -1,13 +1,13 @@
 //! What the multipliers that are proposed prove.
 ghost use Rattle.std.specs.Prelude.{◌≡◌, ◌<◌, ℕ, true, false, Some, IfOk, IfSome};
-ghost use Rattle.integer_laws.specs.Range.{InRange};
-ghost use Rattle.number_sets.specs.Sets.{has};
-ghost use Rattle.pns_rules.specs.Shape.{shape_of};
-ghost use Rattle.pgraph.specs.View.{node_of};
-ghost use Rattle.exact_numbers.specs.Number.{numerator, denominator};
+ghost use Rattle.scaled_flows.specs.integer_laws.Range.{InRange};
+ghost use Rattle.scaled_flows.specs.number_sets.Sets.{has};
+ghost use Rattle.scaled_flows.specs.pns_rules.Shape.{shape_of};
+ghost use Rattle.scaled_flows.specs.pgraph.View.{node_of};
+ghost use Rattle.scaled_flows.specs.exact_numbers.Number.{numerator, denominator};
 ghost use Rattle.scaled_flows.specs.LeastCost.{IsLeastCost};
-ghost use Rattle.tree_rules.specs.Leaf.{IsBounded};
-ghost use Rattle.tree_rules.specs.Lean.{HasCheaper};
+ghost use Rattle.scaled_flows.specs.tree_rules.Leaf.{IsBounded};
+ghost use Rattle.scaled_flows.specs.tree_rules.Lean.{HasCheaper};
 ghost use Rattle.certified_bounds.specs.Certified.{cost_over, IsBetween, IsCertified};
 ghost use Rattle.certified_bounds.specs.Certified.{IsFirstBound};
 
@@ -15,11 +15,8 @@ use crate::certified::{Between, Certified, FirstBound, LeastBound, LowBound};
 use crate::judged::{low_of, reaches};
 use crate::proposals::{Proposals, Way};
 use branch_tree::Scaled;
-use flow_rules::relaxed_duality;
-use exact_numbers::Mixed;
-use pgraph::Site;
+use scaled_flows::{Mixed, Node, Site, relaxed_duality};
 use std::alloc::{AllocError, Global};
-use unit_sets::Node;
 
 // Exact multipliers are used if their scale is at most 2^20, and else rounded ones over this scale.
 const SHORT_BITS: u32 = 20;

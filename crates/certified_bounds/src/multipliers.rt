@@ -1,8 +1,7 @@
 //! Multipliers of scaled rows, in the numbers of the problem.
 use crate::number_list::NumberList;
 use crate::rounding::Ratio;
-use exact_numbers::Frac;
-use exact_numbers::gcd;
+use scaled_flows::{Frac, gcd};
 
 /// Multipliers of scaled rows over a scale, at each the divisor of its material's rates. They pay
 /// for scaled rates in scaled costs: a multiplier times the divisor of costs, over that of its

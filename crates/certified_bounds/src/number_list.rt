@@ -1,6 +1,6 @@
 //! A list of numbers in range that is filled again and again.
 ghost use Rattle.std.specs.Prelude.{◌≡◌};
-ghost use Rattle.integer_laws.specs.Range.{InRange, AllInRange};
+ghost use Rattle.scaled_flows.specs.integer_laws.Range.{InRange, AllInRange};
 
 use std::alloc::{AllocError, Global};
 use std::marker::Model;
@@ -13,7 +13,7 @@ pub(crate) struct NumberList {
 
 impl Model for NumberList {
     ghost use Rattle.std.specs.Prelude.{List, ℤ};
-    ghost use Rattle.integer_laws.specs.Range.{AllInRange};
+    ghost use Rattle.scaled_flows.specs.integer_laws.Range.{AllInRange};
 
     ghost Value = { List ℤ };
 

@@ -1,22 +1,18 @@
 //! What is proposed for a node: a guessed basis, its solution, and what is made of it. Only this is
 //! promised: it is found safely, the work ends, and lists are in range.
 ghost use Rattle.std.specs.Prelude.{◌≡◌};
-ghost use Rattle.integer_laws.specs.Range.{AllInRange};
-ghost use Rattle.flow_rules.specs.Net.{net_of};
+ghost use Rattle.scaled_flows.specs.integer_laws.Range.{AllInRange};
+ghost use Rattle.scaled_flows.specs.flow_rules.Net.{net_of};
 ghost use Rattle.scaled_flows.specs.Divisors.{AreDivisors};
 
 use crate::multipliers::ScaledRows;
 use crate::noted::{codes_of, column_of};
 use crate::number_list::NumberList;
 use crate::rounding::Ratio;
-use basis_guess::{Column, Guess, Numbers, Outcome, ShortSizes, Standing};
-use basis_guess::Solver;
-use exact_numbers::gcd;
-use pns_problem::Problem;
-use scaled_flows::{Guessed, Scales};
+use basis_guess::{Column, Guess, Numbers, Outcome, ShortSizes, Solver, Standing};
+use scaled_flows::{Guessed, Node, Problem, Scales, gcd};
 use std::alloc::{AllocError, Global};
 use std::marker::Model;
-use unit_sets::Node;
 
 /// What is proposed: sizes and multipliers that may be optimal, a row that may show that there are
 /// no flows, or nothing.

@@ -1,18 +1,17 @@
 //! Multipliers that refute a node.
 ghost use Rattle.std.specs.Prelude.{◌≡◌, ◌<◌, ℕ, Bool, true, IsTrue, IfOk, IfSome};
-ghost use Rattle.number_sets.specs.Sets.{has};
-ghost use Rattle.pns_rules.specs.Shape.{shape_of};
-ghost use Rattle.pgraph.specs.View.{node_of};
-ghost use Rattle.tree_rules.specs.Leaf.{IsRefuted};
+ghost use Rattle.scaled_flows.specs.number_sets.Sets.{has};
+ghost use Rattle.scaled_flows.specs.pns_rules.Shape.{shape_of};
+ghost use Rattle.scaled_flows.specs.pgraph.View.{node_of};
+ghost use Rattle.scaled_flows.specs.tree_rules.Leaf.{IsRefuted};
 ghost use Rattle.certified_bounds.specs.Certified.{IsCertified, IsFirstBound};
 
 use crate::certified::{Certified, FirstBound};
 use crate::judged::is_refuted;
 use crate::proposals::Proposals;
 use branch_tree::Multipliers;
-use pgraph::Site;
+use scaled_flows::{Node, Site};
 use std::alloc::{AllocError, Global};
-use unit_sets::Node;
 
 /// Whether the multipliers of the row that can't be met refute the node, once they are rounded.
 fn is_row_refuted(site: &Site<'_>, node: &Node, proposals: &mut Proposals, bits: u32) -> bool

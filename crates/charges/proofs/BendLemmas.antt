@@ -6,13 +6,13 @@ use Rattle.std.specs.Prelude.{not, ◌==◌}
 use Rattle.std.specs.Ordering.{int_eq}
 use Rattle.std.proofs.lemmas.Int.{ints}
 use Rattle.std.proofs.lemmas.Bool.{both_ways}
-use Rattle.number_sets.specs.Sets.{kept, IsRising}
-use Rattle.flow_rules.specs.Steps.{AreInRange, IsFirstPast}
-use Rattle.flow_rules.proofs.LeadingLemmas.{Leads, leads_none, leads_part, leads_past_in, leads_all}
-use Rattle.flow_rules.proofs.LeadingLemmas.{leads_same}
-use Rattle.flow_rules.proofs.ZeroLemmas.{int_eq_zero, int_eq_other, zero_from}
-use Rattle.flow_rules.specs.Charge.{Knee, Owed, sorted, counted, bend, bent}
-use Rattle.flow_rules.specs.ChargeSteps.{knee_steps}
+use Rattle.structure_list.specs.number_sets.Sets.{kept, IsRising}
+use Rattle.structure_list.specs.flow_rules.Steps.{AreInRange, IsFirstPast}
+use Rattle.structure_list.proofs.flow_rules.Cited.{Leads, leads_none, leads_part, leads_past_in}
+use Rattle.structure_list.proofs.flow_rules.Cited.{leads_all}
+use Rattle.structure_list.proofs.flow_rules.Cited.{leads_same, int_eq_zero, int_eq_other, zero_from}
+use Rattle.structure_list.specs.flow_rules.Charge.{Knee, Owed, sorted, counted, bend, bent}
+use Rattle.structure_list.specs.flow_rules.ChargeSteps.{knee_steps}
 use Rattle.charges.specs.Bends.{three_steps}
 use Rattle.charges.specs.Firsts.{IsFirstLeast}
 use Rattle.charges.proofs.KneeLemmas.{sorted_first, first_counts}

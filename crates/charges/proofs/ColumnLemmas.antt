@@ -2,10 +2,11 @@
 use Rattle.std.proofs.Common.{◌≡◌, ℕ, ◌+◌, ◌-◌, ◌≤◌, ap, ◌∙◌, subst, arith, ℤ, ◌+ℤ◌, List, ◌++◌}
 use Rattle.std.proofs.Common.{length}
 use Rattle.std.proofs.lemmas.List.{length-append}
-use Rattle.flow_rules.specs.Steps.{AreInRange, IsFirstPast}
-use Rattle.flow_rules.proofs.LeadingLemmas.{IsFirstPast-left, IsFirstPast-right, AreInRange-append}
-use Rattle.flow_rules.specs.Charge.{Knee, Owed, or_none}
-use Rattle.flow_rules.specs.ChargeSteps.{sum_steps}
+use Rattle.structure_list.specs.flow_rules.Steps.{AreInRange, IsFirstPast}
+use Rattle.structure_list.proofs.flow_rules.Cited.{IsFirstPast-left, IsFirstPast-right}
+use Rattle.structure_list.proofs.flow_rules.Cited.{AreInRange-append}
+use Rattle.structure_list.specs.flow_rules.Charge.{Knee, Owed, or_none}
+use Rattle.structure_list.specs.flow_rules.ChargeSteps.{sum_steps}
 use Rattle.charges.specs.Columns.{owed_in, owed_steps, bent_steps, charge_in, column_steps}
 use Rattle.charges.specs.declared.unit.Terms.{Terms}
 

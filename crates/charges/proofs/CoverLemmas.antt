@@ -2,12 +2,12 @@
 use Rattle.std.proofs.Common.{◌≡◌, ℕ, Bool, true, false, refl, sym, subst, ◌∙◌, Option, Some, None}
 use Rattle.std.specs.Prelude.{◌||◌, ◌&&◌, IfSome}
 use Rattle.std.proofs.lemmas.Bool.{both_ways, eq-eqb, eqb-true}
-use Rattle.number_sets.specs.Sets.{has, any_below}
-use Rattle.number_sets.proofs.SetLemmas.{any_below-some, any_below-none}
-use Rattle.pns_rules.specs.Shape.{Shape}
-use Rattle.pns_rules.specs.Structure.{IsBetween}
-use Rattle.pns_rules.specs.Nodes.{Node}
-use Rattle.flow_rules.specs.Cover.{Cover, Covers, is_beside}
+use Rattle.structure_list.specs.number_sets.Sets.{has, any_below}
+use Rattle.structure_list.proofs.number_sets.Cited.{any_below-some, any_below-none}
+use Rattle.structure_list.specs.pns_rules.Shape.{Shape}
+use Rattle.structure_list.specs.pns_rules.Structure.{IsBetween}
+use Rattle.structure_list.specs.pns_rules.Nodes.{Node}
+use Rattle.structure_list.specs.flow_rules.Cover.{Cover, Covers, is_beside}
 
 module _ (g : Shape) (n : Node) (c : Cover) (inside outside : ℕ → Bool)
     (in_is : (u : ℕ) → inside u ≡ (is_beside c.beside u || n.inside u))

@@ -2,11 +2,11 @@
 use Rattle.std.proofs.Common.{◌≡◌, ℕ, Bool, true, false, refl, sym, ap, ◌∙◌, List}
 use Rattle.std.specs.Prelude.{◌&&◌, not, nat_lt}
 use Rattle.std.proofs.lemmas.Bool.{both_ways, ltb-true, lt-ltb}
-use Rattle.number_sets.specs.Sets.{has, minus}
-use Rattle.number_sets.proofs.SetLemmas.{has-minus}
-use Rattle.pns_rules.specs.Shape.{Shape}
-use Rattle.pns_rules.specs.Nodes.{Node}
-use Rattle.flow_rules.specs.Cover.{IsFree}
+use Rattle.structure_list.specs.number_sets.Sets.{has, minus}
+use Rattle.structure_list.proofs.number_sets.Cited.{has-minus}
+use Rattle.structure_list.specs.pns_rules.Shape.{Shape}
+use Rattle.structure_list.specs.pns_rules.Nodes.{Node}
+use Rattle.structure_list.specs.flow_rules.Cover.{IsFree}
 
 false_of : (a : Bool) → not a ≡ true → a ≡ false
 false_of true h = absurd (both_ways false refl h)

@@ -6,36 +6,39 @@ use Rattle.std.proofs.Common.{List, [], ◌∷◌, ◌++◌, length, map, append
 use Rattle.std.specs.Prelude.{◌==◌, not, ◌&&◌, ◌||◌, nat_lt, int_lt, Option, Some, None}
 use Rattle.std.proofs.lemmas.Bool.{both_ways, eqb-true}
 use Rattle.std.proofs.lemmas.Int.{ints}
-use Rattle.integer_laws.specs.Range.{InRange}
-use Rattle.integer_laws.specs.Total.{total}
-use Rattle.integer_laws.proofs.Totals.{total-agree}
-use Rattle.number_sets.specs.Sets.{has, listed, IsRising, IsSet}
-use Rattle.number_sets.proofs.SetLemmas.{has-listed, same_sets, IsRising-listed}
-use Rattle.problem_rules.specs.Problem.{Problem, rate_of}
-use Rattle.problem_rules.specs.WellFormed.{IsWellFormed}
-use Rattle.pns_rules.specs.Structure.{mats}
-use Rattle.pns_rules.specs.Nodes.{Node}
-use Rattle.flow_rules.specs.Net.{Net, net_of, trillion, size_cost}
-use Rattle.flow_rules.specs.Relaxed.{stays, rows}
-use Rattle.flow_rules.specs.Steps.{AreInRange, IsFirstPast}
-use Rattle.flow_rules.specs.BoundSteps.{rows_at, reduced_steps}
-use Rattle.flow_rules.proofs.LeadingLemmas.{Leads, leads_none, leads_part, leads_past_in, leads_all}
-use Rattle.flow_rules.proofs.LeadingLemmas.{leads_same, IsFirstPast-left}
-use Rattle.flow_rules.proofs.SameLemmas.{all_had, reduced-same}
-use Rattle.flow_rules.proofs.LastLemmas.{total_at_rows}
+use Rattle.structure_list.specs.integer_laws.Range.{InRange}
+use Rattle.structure_list.specs.integer_laws.Total.{total}
+use Rattle.structure_list.proofs.integer_laws.Cited.{total-agree}
+use Rattle.structure_list.specs.number_sets.Sets.{has, listed, IsRising, IsSet}
+use Rattle.structure_list.proofs.number_sets.Cited.{has-listed, same_sets, IsRising-listed}
+use Rattle.structure_list.specs.problem_rules.Problem.{Problem, rate_of}
+use Rattle.structure_list.specs.problem_rules.WellFormed.{IsWellFormed}
+use Rattle.structure_list.specs.pns_rules.Structure.{mats}
+use Rattle.structure_list.specs.pns_rules.Nodes.{Node}
+use Rattle.structure_list.specs.flow_rules.Net.{Net, net_of, trillion, size_cost}
+use Rattle.structure_list.specs.flow_rules.Relaxed.{stays, rows}
+use Rattle.structure_list.specs.flow_rules.Steps.{AreInRange, IsFirstPast}
+use Rattle.structure_list.specs.flow_rules.BoundSteps.{rows_at, reduced_steps}
+use Rattle.structure_list.proofs.flow_rules.Cited.{Leads, leads_none, leads_part, leads_past_in}
+use Rattle.structure_list.proofs.flow_rules.Cited.{leads_all}
+use Rattle.structure_list.proofs.flow_rules.Cited.{leads_same, IsFirstPast-left, all_had}
+use Rattle.structure_list.proofs.flow_rules.Cited.{reduced-same}
+use Rattle.structure_list.proofs.flow_rules.Cited.{total_at_rows}
 use Rattle.flow_program.specs.Columns.{left_of}
 use Rattle.flow_program.specs.Entry.{entry}
 use Rattle.flow_program.specs.Rates.{AreRates}
-use Rattle.flow_program.proofs.WalkLemmas.{IsNext, has-first, has-rest}
-use Rattle.flow_program.proofs.BoundSumLemmas.{materials_are_rows}
-use Rattle.flow_rules.specs.ChargeFacts.{Demand, Facts}
-use Rattle.flow_rules.specs.Cover.{Cover, paid}
-use Rattle.flow_rules.specs.Charge as rules
-use Rattle.flow_rules.specs.Charge.{Knee, Owed, useful, has_knee, knee_of, knees, sorted, bent}
-use Rattle.flow_rules.specs.Charge.{demanded_by, owed, owed_bent, unit_charge, unit_part}
-use Rattle.flow_rules.specs.Charge.{or_none}
-use Rattle.flow_rules.specs.ChargeSteps.{knee_steps, size_steps, sum_steps, unit_steps}
-use Rattle.flow_rules.specs.ChargeSteps.{use_steps, units_steps}
+use Rattle.flow_program.proofs.Cited.{IsNext, has-first, has-rest, materials_are_rows}
+use Rattle.structure_list.specs.flow_rules.ChargeFacts.{Demand, Facts}
+use Rattle.structure_list.specs.flow_rules.Cover.{Cover, paid}
+use Rattle.structure_list.specs.flow_rules.Charge as rules
+use Rattle.structure_list.specs.flow_rules.Charge.{Knee, Owed, useful, has_knee, knee_of, knees}
+use Rattle.structure_list.specs.flow_rules.Charge.{sorted, bent}
+use Rattle.structure_list.specs.flow_rules.Charge.{demanded_by, owed, owed_bent, unit_charge}
+use Rattle.structure_list.specs.flow_rules.Charge.{unit_part}
+use Rattle.structure_list.specs.flow_rules.Charge.{or_none}
+use Rattle.structure_list.specs.flow_rules.ChargeSteps.{knee_steps, size_steps, sum_steps}
+use Rattle.structure_list.specs.flow_rules.ChargeSteps.{unit_steps}
+use Rattle.structure_list.specs.flow_rules.ChargeSteps.{use_steps, units_steps}
 use Rattle.charges.specs.declared.knees.Knees.{Knees}
 use Rattle.charges.specs.declared.useful.Useful.{Useful}
 use Rattle.charges.specs.declared.unit.Terms.{Terms}

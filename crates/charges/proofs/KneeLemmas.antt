@@ -7,10 +7,10 @@ use Rattle.std.specs.Int.Signed.{le_z, le_z_yes}
 use Rattle.std.proofs.lemmas.Float.{T_from_true}
 use Rattle.std.proofs.lemmas.Int.{ints}
 use Rattle.std.proofs.lemmas.Bool.{ne_eqb}
-use Rattle.number_sets.specs.Sets.{has, kept, IsRising}
-use Rattle.flow_rules.proofs.NetLemmas.{at_most_from}
-use Rattle.flow_program.proofs.WalkLemmas.{walk_next, has-first, has-rest}
-use Rattle.flow_rules.specs.Charge.{Knee, inserted, sorted}
+use Rattle.structure_list.specs.number_sets.Sets.{has, kept, IsRising}
+use Rattle.structure_list.proofs.flow_rules.Cited.{at_most_from}
+use Rattle.flow_program.proofs.Cited.{walk_next, has-first, has-rest}
+use Rattle.structure_list.specs.flow_rules.Charge.{Knee, inserted, sorted}
 use Rattle.charges.specs.Firsts.{AreAtLeast, IsFirstLeast, least_from}
 
 pub lt_from : (x y : ℤ) → int_lt x y ≡ true → x <ℤ y

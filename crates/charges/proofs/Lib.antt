@@ -12,3 +12,7 @@ pub mod UseLemmas
 pub mod ColumnLemmas
 pub mod RowLemmas
 pub mod TableLemmas
+pub use Rattle.structure_list.proofs.pns_problem as pns_problem
+pub use Rattle.structure_list.proofs.pgraph as pgraph
+pub use Rattle.structure_list.proofs as structure_list
+pub use Rattle.flow_program.proofs as flow_program

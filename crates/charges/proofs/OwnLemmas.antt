@@ -4,7 +4,7 @@ use Rattle.std.proofs.Common.{ap, ◌∙◌, arith, inl, inr, pos, ℤ, List, le
 use Rattle.std.specs.Prelude.{Option, Some, None}
 use Rattle.std.proofs.lemmas.List.{get_or-set_same, get_or-set_other, length-set}
 use Rattle.std.proofs.lemmas.Bool.{cases_eq, cases_order, eq-eqb, ne_eqb}
-use Rattle.problem_rules.specs.Problem.{Problem, OperatingUnit, unit_at, no_unit}
+use Rattle.structure_list.specs.problem_rules.Problem.{Problem, OperatingUnit, unit_at, no_unit}
 use Rattle.charges.specs.Known.{at_one, known_at}
 
 -- the table has f at each number below u, and 0 from there on

@@ -8,18 +8,21 @@ use Rattle.std.proofs.lemmas.List.{length-append, drop_more, get_or-set_same, ge
 use Rattle.std.proofs.lemmas.List.{length-set}
 use Rattle.std.proofs.lemmas.Bool.{eq-eqb, ne_eqb, cases_eq}
 use Rattle.std.proofs.lemmas.Int.{ints}
-use Rattle.integer_laws.specs.Range.{InRange}
-use Rattle.number_sets.specs.Sets.{has, IsWithin}
-use Rattle.flow_rules.specs.Steps.{AreInRange, IsFirstPast}
-use Rattle.flow_rules.proofs.LeadingLemmas.{Leads, leads_none, leads_one, leads_part, leads_past}
-use Rattle.flow_rules.proofs.LeadingLemmas.{leads_past_in, leads_all, leads_same, IsFirstPast-right}
-use Rattle.flow_rules.proofs.LeadingLemmas.{AreInRange-append}
-use Rattle.flow_program.proofs.WalkLemmas.{IsNext, has_next, passed, rest_within}
-use Rattle.flow_rules.specs.Cover as rules
-use Rattle.flow_rules.specs.Cover.{is_beside, paid_by, paid, added, weights}
-use Rattle.flow_rules.specs.ChargeSteps.{added_steps, weight_steps, beside_steps, paid_steps}
-use Rattle.pgraph.specs.declared.cover.Cover.{Cover}
-use Rattle.pgraph.specs.CoversView.{cover_of, covers_of}
+use Rattle.structure_list.specs.integer_laws.Range.{InRange}
+use Rattle.structure_list.specs.number_sets.Sets.{has, IsWithin}
+use Rattle.structure_list.specs.flow_rules.Steps.{AreInRange, IsFirstPast}
+use Rattle.structure_list.proofs.flow_rules.Cited.{Leads, leads_none, leads_one, leads_part}
+use Rattle.structure_list.proofs.flow_rules.Cited.{leads_past}
+use Rattle.structure_list.proofs.flow_rules.Cited.{leads_past_in, leads_all, leads_same}
+use Rattle.structure_list.proofs.flow_rules.Cited.{IsFirstPast-right}
+use Rattle.structure_list.proofs.flow_rules.Cited.{AreInRange-append}
+use Rattle.flow_program.proofs.Cited.{IsNext, has_next, passed, rest_within}
+use Rattle.structure_list.specs.flow_rules.Cover as rules
+use Rattle.structure_list.specs.flow_rules.Cover.{is_beside, paid_by, paid, added, weights}
+use Rattle.structure_list.specs.flow_rules.ChargeSteps.{added_steps, weight_steps, beside_steps}
+use Rattle.structure_list.specs.flow_rules.ChargeSteps.{paid_steps}
+use Rattle.structure_list.specs.pgraph.declared.cover.Cover.{Cover}
+use Rattle.structure_list.specs.pgraph.CoversView.{cover_of, covers_of}
 use Rattle.charges.specs.Sets.{cover_steps, AreBesideSmall, IsBesideSmall}
 use Rattle.charges.proofs.OwnLemmas.{same_all}
 

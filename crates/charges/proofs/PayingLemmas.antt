@@ -4,11 +4,11 @@ use Rattle.std.proofs.Common.{arith, pos, ℤ, ◌*ℤ◌, List, [], length, get
 use Rattle.std.specs.Prelude.{◌&&◌, ◌||◌}
 use Rattle.std.proofs.lemmas.List.{get_or-set_same, get_or-set_other, length-set}
 use Rattle.std.proofs.lemmas.Bool.{eq-eqb, ne_eqb, both_ways}
-use Rattle.integer_laws.specs.Range.{InRange}
-use Rattle.number_sets.specs.Sets.{has, IsWithin}
-use Rattle.number_sets.proofs.SetLemmas.{below_not_had}
-use Rattle.flow_program.proofs.WalkLemmas.{IsNext, has_next, passed, rest_within}
-use Rattle.flow_rules.specs.Charge.{rounded_up}
+use Rattle.structure_list.specs.integer_laws.Range.{InRange}
+use Rattle.structure_list.specs.number_sets.Sets.{has, IsWithin}
+use Rattle.structure_list.proofs.number_sets.Cited.{below_not_had}
+use Rattle.flow_program.proofs.Cited.{IsNext, has_next, passed, rest_within}
+use Rattle.structure_list.specs.flow_rules.Charge.{rounded_up}
 
 clash : (b : Bool) → {X : Type 0} → b ≡ true → b ≡ false → X
 clash b e f = absurd (let g : true ≡ false = sym e ∙ f in cc)

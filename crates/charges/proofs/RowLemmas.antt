@@ -2,17 +2,18 @@
 use Rattle.std.proofs.Common.{◌≡◌, ℕ, ◌+◌, ◌*◌, ◌-◌, ◌≤◌, sym, ap, ◌∙◌, arith, pos, ℤ, ◌+ℤ◌, List}
 use Rattle.std.proofs.Common.{[], ◌∷◌, ◌++◌, length}
 use Rattle.std.proofs.lemmas.Int.{ints}
-use Rattle.integer_laws.specs.Total.{total}
-use Rattle.number_sets.specs.Sets.{has, IsWithin}
-use Rattle.pns_rules.specs.Nodes.{Node}
-use Rattle.flow_rules.specs.Net.{Net}
-use Rattle.flow_rules.specs.Relaxed.{row_low, row_high, row_part}
-use Rattle.flow_rules.specs.Steps.{AreInRange, IsFirstPast}
-use Rattle.flow_rules.specs.BoundSteps.{least_steps, rows_steps}
-use Rattle.flow_rules.proofs.LeadingLemmas.{Leads, leads_none, leads_part, leads_past_in, leads_all}
-use Rattle.flow_rules.proofs.LeadingLemmas.{leads_same}
+use Rattle.structure_list.specs.integer_laws.Total.{total}
+use Rattle.structure_list.specs.number_sets.Sets.{has, IsWithin}
+use Rattle.structure_list.specs.pns_rules.Nodes.{Node}
+use Rattle.structure_list.specs.flow_rules.Net.{Net}
+use Rattle.structure_list.specs.flow_rules.Relaxed.{row_low, row_high, row_part}
+use Rattle.structure_list.specs.flow_rules.Steps.{AreInRange, IsFirstPast}
+use Rattle.structure_list.specs.flow_rules.BoundSteps.{least_steps, rows_steps}
+use Rattle.structure_list.proofs.flow_rules.Cited.{Leads, leads_none, leads_part, leads_past_in}
+use Rattle.structure_list.proofs.flow_rules.Cited.{leads_all}
+use Rattle.structure_list.proofs.flow_rules.Cited.{leads_same}
 use Rattle.flow_program.specs.Columns.{least_of}
-use Rattle.flow_program.proofs.WalkLemmas.{IsNext, rest_within}
+use Rattle.flow_program.proofs.Cited.{IsNext, rest_within}
 
 nothing_more : (a b : ℤ) → b ≡ pos 0 → a ≡ a +ℤ b
 nothing_more a b e = omega (arith, ints)

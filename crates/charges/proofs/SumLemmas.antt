@@ -2,18 +2,20 @@
 use Rattle.std.proofs.Common.{◌≡◌, ℕ, ◌+◌, ◌-◌, ◌≤◌, ◌∙◌, subst, arith, pos, ℤ, ◌+ℤ◌, List, ◌++◌}
 use Rattle.std.proofs.Common.{length}
 use Rattle.std.specs.Prelude.{Option}
-use Rattle.integer_laws.specs.Total.{total}
-use Rattle.pns_rules.specs.Nodes.{Node}
-use Rattle.flow_rules.specs.Net.{Net}
-use Rattle.flow_rules.specs.Relaxed.{units, rows, row_part}
-use Rattle.flow_rules.specs.Steps.{AreInRange, IsFirstPast}
-use Rattle.flow_rules.specs.BoundSteps.{rows_steps}
-use Rattle.flow_rules.proofs.LeadingLemmas.{IsFirstPast-left, IsFirstPast-right, AreInRange-append}
-use Rattle.flow_rules.specs.ChargeFacts.{Demand, Facts}
-use Rattle.flow_rules.specs.Cover.{Cover, weights}
-use Rattle.flow_rules.specs.Charge.{demanded, unit_part, charge}
-use Rattle.flow_rules.specs.ChargeSteps.{demand_steps, weight_steps, paid_steps, units_steps}
-use Rattle.flow_rules.specs.ChargeSteps.{charge_steps}
+use Rattle.structure_list.specs.integer_laws.Total.{total}
+use Rattle.structure_list.specs.pns_rules.Nodes.{Node}
+use Rattle.structure_list.specs.flow_rules.Net.{Net}
+use Rattle.structure_list.specs.flow_rules.Relaxed.{units, rows, row_part}
+use Rattle.structure_list.specs.flow_rules.Steps.{AreInRange, IsFirstPast}
+use Rattle.structure_list.specs.flow_rules.BoundSteps.{rows_steps}
+use Rattle.structure_list.proofs.flow_rules.Cited.{IsFirstPast-left, IsFirstPast-right}
+use Rattle.structure_list.proofs.flow_rules.Cited.{AreInRange-append}
+use Rattle.structure_list.specs.flow_rules.ChargeFacts.{Demand, Facts}
+use Rattle.structure_list.specs.flow_rules.Cover.{Cover, weights}
+use Rattle.structure_list.specs.flow_rules.Charge.{demanded, unit_part, charge}
+use Rattle.structure_list.specs.flow_rules.ChargeSteps.{demand_steps, weight_steps, paid_steps}
+use Rattle.structure_list.specs.flow_rules.ChargeSteps.{units_steps}
+use Rattle.structure_list.specs.flow_rules.ChargeSteps.{charge_steps}
 
 -- y is read from a table, what is asked for from the facts, and the rows and units are listed
 module _ (net : Net) (n : Node) (f : Facts) (d : ℤ) (table y : ℕ → ℤ) (ys : table ≡ y)

@@ -5,9 +5,9 @@ use Rattle.std.proofs.Common.{arith, pos, ℤ}
 use Rattle.std.proofs.lemmas.List.{drop_more, get_or-set_same, get_or-set_other, length-set}
 use Rattle.std.specs.Prelude.{◌==◌, ◌||◌}
 use Rattle.std.proofs.lemmas.Bool.{eq-eqb, ne_eqb, both_ways}
-use Rattle.number_sets.specs.Sets.{has, IsRising, IsBelowAll, IsSet, IsWithin}
-use Rattle.flow_rules.specs.Net.{beside}
-use Rattle.flow_program.proofs.WalkLemmas.{IsNext, has_next, passed, rest_within}
+use Rattle.structure_list.specs.number_sets.Sets.{has, IsRising, IsBelowAll, IsSet, IsWithin}
+use Rattle.structure_list.specs.flow_rules.Net.{beside}
+use Rattle.flow_program.proofs.Cited.{IsNext, has_next, passed, rest_within}
 use Rattle.charges.proofs.OwnLemmas.{same_all}
 
 -- `left` are the numbers of the set from place k on; at each other the table has its value

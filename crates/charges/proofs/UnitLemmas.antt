@@ -7,19 +7,20 @@ use Rattle.std.specs.Int.{int_min}
 use Rattle.std.proofs.lemmas.Int.{ints, clamps}
 use Rattle.std.proofs.lemmas.List.{length-append}
 use Rattle.std.proofs.lemmas.Bool.{both_ways, eq-eqb}
-use Rattle.integer_laws.specs.Range.{InRange}
-use Rattle.flow_rules.specs.Steps.{AreInRange, IsFirstPast}
-use Rattle.flow_rules.specs.BoundSteps.{least_steps, reduced_steps}
-use Rattle.flow_rules.proofs.LeadingLemmas.{IsFirstPast-left, IsFirstPast-right, AreInRange-append}
-use Rattle.flow_rules.specs.Net.{Net, million, size_cost}
-use Rattle.flow_rules.specs.Relaxed.{unit_cost, slope}
-use Rattle.integer_laws.specs.Total.{total}
-use Rattle.number_sets.specs.Sets.{has}
-use Rattle.flow_rules.proofs.NetLemmas.{at_most_from}
+use Rattle.structure_list.specs.integer_laws.Range.{InRange}
+use Rattle.structure_list.specs.flow_rules.Steps.{AreInRange, IsFirstPast}
+use Rattle.structure_list.specs.flow_rules.BoundSteps.{least_steps, reduced_steps}
+use Rattle.structure_list.proofs.flow_rules.Cited.{IsFirstPast-left, IsFirstPast-right}
+use Rattle.structure_list.proofs.flow_rules.Cited.{AreInRange-append}
+use Rattle.structure_list.proofs.flow_rules.Cited.{at_most_from}
+use Rattle.structure_list.specs.flow_rules.Net.{Net, million, size_cost}
+use Rattle.structure_list.specs.flow_rules.Relaxed.{unit_cost, slope}
+use Rattle.structure_list.specs.integer_laws.Total.{total}
+use Rattle.structure_list.specs.number_sets.Sets.{has}
 use Rattle.flow_program.specs.Columns.{left_of, least_of}
-use Rattle.flow_program.proofs.BoundSumLemmas.{IsReducedSoFar, reduced_ends}
-use Rattle.flow_rules.specs.Charge.{Knee, Owed, bent, least_owed, or_none}
-use Rattle.flow_rules.specs.ChargeSteps.{knee_steps, size_steps, sum_steps}
+use Rattle.flow_program.proofs.Cited.{IsReducedSoFar, reduced_ends}
+use Rattle.structure_list.specs.flow_rules.Charge.{Knee, Owed, bent, least_owed, or_none}
+use Rattle.structure_list.specs.flow_rules.ChargeSteps.{knee_steps, size_steps, sum_steps}
 use Rattle.charges.specs.declared.unit.Terms.{Terms}
 use Rattle.charges.specs.Columns.{used_steps, each_in, each_steps, once_steps, owed_steps}
 use Rattle.charges.specs.Columns.{bent_steps, charge_in}

@@ -7,24 +7,24 @@ use Rattle.std.specs.Int.{int_max}
 use Rattle.std.proofs.lemmas.List.{get_or-set_same, get_or-set_other, length-set}
 use Rattle.std.proofs.lemmas.Bool.{cases_eq, both_ways}
 use Rattle.std.proofs.lemmas.Int.{ints, clamps}
-use Rattle.integer_laws.specs.Total.{total}
-use Rattle.number_sets.specs.Sets.{has, meet, listed, IsRising, IsSet, IsWithin}
-use Rattle.number_sets.proofs.SetLemmas.{has-meet, has-listed, same_sets, IsRising-kept}
-use Rattle.number_sets.proofs.SetLemmas.{IsRising-listed, length_below}
-use Rattle.problem_rules.specs.Each.{Each}
-use Rattle.problem_rules.specs.Problem.{Problem, Term, unit_at, terms_have, rate_in, rate_of}
-use Rattle.problem_rules.specs.WellFormed.{IsWellFormed, IsWellFormedTerm}
-use Rattle.pns_rules.specs.Shape.{shape_of}
-use Rattle.pns_rules.specs.Nodes.{Node}
-use Rattle.flow_rules.specs.Net.{net_of}
-use Rattle.flow_rules.specs.Relaxed.{stays, units}
-use Rattle.flow_rules.proofs.ListedLemmas.{total-sets}
-use Rattle.flow_rules.proofs.NetLemmas.{no_rate_in, unit_formed, not_negative_from}
-use Rattle.flow_program.proofs.RateLemmas.{rate_in_range}
-use Rattle.flow_program.proofs.SizeLemmas.{size_sub}
-use Rattle.flow_program.proofs.WalkLemmas.{IsNext, has_next, passed, rest_within}
-use Rattle.flow_rules.specs.ChargeFacts.{Facts, use_rate}
-use Rattle.flow_rules.specs.Charge.{users_most}
+use Rattle.structure_list.specs.integer_laws.Total.{total}
+use Rattle.structure_list.specs.number_sets.Sets.{has, meet, listed, IsRising, IsSet, IsWithin}
+use Rattle.structure_list.proofs.number_sets.Cited.{has-meet, has-listed, same_sets, IsRising-kept}
+use Rattle.structure_list.proofs.number_sets.Cited.{IsRising-listed, length_below}
+use Rattle.structure_list.specs.problem_rules.Each.{Each}
+use Rattle.structure_list.specs.problem_rules.Problem.{Problem, Term, unit_at, terms_have, rate_in}
+use Rattle.structure_list.specs.problem_rules.Problem.{rate_of}
+use Rattle.structure_list.specs.problem_rules.WellFormed.{IsWellFormed, IsWellFormedTerm}
+use Rattle.structure_list.specs.pns_rules.Shape.{shape_of}
+use Rattle.structure_list.specs.pns_rules.Nodes.{Node}
+use Rattle.structure_list.specs.flow_rules.Net.{net_of}
+use Rattle.structure_list.specs.flow_rules.Relaxed.{stays, units}
+use Rattle.structure_list.proofs.flow_rules.Cited.{total-sets, no_rate_in, unit_formed}
+use Rattle.structure_list.proofs.flow_rules.Cited.{not_negative_from}
+use Rattle.flow_program.proofs.Cited.{rate_in_range, size_sub, IsNext, has_next, passed}
+use Rattle.flow_program.proofs.Cited.{rest_within}
+use Rattle.structure_list.specs.flow_rules.ChargeFacts.{Facts, use_rate}
+use Rattle.structure_list.specs.flow_rules.Charge.{users_most}
 
 lengths : (n : ℕ) (left : List ℕ) (x : ℕ) (rest : List ℕ) → IsNext n left x rest → length left ≡ 1
     + length rest

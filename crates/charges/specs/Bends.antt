@@ -1,9 +1,9 @@
 -- What the code keeps of knees and of what is owed.
 use Rattle.std.specs.Prelude.{◌≡◌, ℕ, ℤ, ◌+ℤ◌, ◌-ℤ◌, ◌*ℤ◌, List, [], ◌∷◌, map}
-use Rattle.integer_laws.specs.Range.{InRange}
+use Rattle.structure_list.specs.integer_laws.Range.{InRange}
 use Rattle.flow_program.specs.Entry.{entry}
-use Rattle.flow_rules.specs.Charge as rules
-use Rattle.flow_rules.specs.Charge.{sorted, rounded_up}
+use Rattle.structure_list.specs.flow_rules.Charge as rules
+use Rattle.structure_list.specs.flow_rules.Charge.{sorted, rounded_up}
 use Rattle.charges.specs.declared.bending.Owed.{Owed}
 use Rattle.charges.specs.declared.knees.Knees.{Knees}
 

@@ -2,12 +2,12 @@
 -- and sizes, and the sum.
 use Rattle.std.specs.Prelude.{ℕ, ℤ, pos, ◌-ℤ◌, ◌*ℤ◌, cond, List, [], ◌∷◌, ◌++◌, Option, Some, None}
 use Rattle.std.specs.Ordering.{int_eq}
-use Rattle.flow_rules.specs.Net.{Net}
-use Rattle.flow_rules.specs.BoundSteps.{reduced_steps}
+use Rattle.structure_list.specs.flow_rules.Net.{Net}
+use Rattle.structure_list.specs.flow_rules.BoundSteps.{reduced_steps}
 use Rattle.flow_program.specs.Columns.{left_of}
-use Rattle.flow_rules.specs.ChargeFacts as rules
-use Rattle.flow_rules.specs.Charge.{Owed, Knee, bent, least_owed}
-use Rattle.flow_rules.specs.ChargeSteps.{knee_steps, size_steps, sum_steps}
+use Rattle.structure_list.specs.flow_rules.ChargeFacts as rules
+use Rattle.structure_list.specs.flow_rules.Charge.{Owed, Knee, bent, least_owed}
+use Rattle.structure_list.specs.flow_rules.ChargeSteps.{knee_steps, size_steps, sum_steps}
 use Rattle.charges.specs.declared.unit.Terms.{Terms}
 
 -- what the use that is asked for is worth, and the rate at which a unit uses the material; 0 if no

@@ -1,14 +1,14 @@
 -- What the sum over the units reads of a node.
 use Rattle.std.specs.Prelude.{◌≡◌, ◌≤◌, ◌^◌, ℕ, ℤ, List, true, ◌&&◌, not, unsigned_abs}
-use Rattle.number_sets.specs.Sets.{has}
-use Rattle.pns_rules.specs.Nodes.{Node}
-use Rattle.pgraph.specs.View.{node_of}
-use Rattle.flow_rules.specs.Net.{Net}
-use Rattle.flow_rules.specs.Relaxed.{units, rows}
+use Rattle.structure_list.specs.number_sets.Sets.{has}
+use Rattle.structure_list.specs.pns_rules.Nodes.{Node}
+use Rattle.structure_list.specs.pgraph.View.{node_of}
+use Rattle.structure_list.specs.flow_rules.Net.{Net}
+use Rattle.structure_list.specs.flow_rules.Relaxed.{units, rows}
 use Rattle.flow_program.specs.Entry.{entry}
-use Rattle.flow_rules.specs.ChargeFacts as rules
-use Rattle.flow_rules.specs.Cover.{Cover, paid}
-use Rattle.flow_rules.specs.Charge.{useful}
+use Rattle.structure_list.specs.flow_rules.ChargeFacts as rules
+use Rattle.structure_list.specs.flow_rules.Cover.{Cover, paid}
+use Rattle.structure_list.specs.flow_rules.Charge.{useful}
 use Rattle.charges.specs.Known.{facts_of}
 use Rattle.charges.specs.declared.useful.Useful.{Useful}
 use Rattle.charges.specs.declared.charge.Ground.{Ground}

@@ -1,7 +1,7 @@
 -- The facts that a table has.
 use Rattle.std.specs.Prelude.{◌==◌, ℕ, ℤ, Option, Some, None, cond, slice_index_or}
 use Rattle.flow_program.specs.Entry.{entry}
-use Rattle.flow_rules.specs.ChargeFacts as rules
+use Rattle.structure_list.specs.flow_rules.ChargeFacts as rules
 use Rattle.charges.specs.declared.facts.Demand.{Demand}
 use Rattle.charges.specs.declared.facts.Facts.{Facts}
 

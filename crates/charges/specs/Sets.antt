@@ -1,9 +1,9 @@
 -- The covers as the code has them.
 use Rattle.std.specs.Prelude.{ℕ, ◌<◌, ℤ, ◌+ℤ◌, ◌++◌, List, map, IfSome}
 use Rattle.std.specs.List.{AllByRecursion}
-use Rattle.flow_rules.specs.Cover as rules
-use Rattle.flow_rules.specs.ChargeSteps.{beside_steps}
-use Rattle.pgraph.specs.declared.cover.Cover.{Cover}
+use Rattle.structure_list.specs.flow_rules.Cover as rules
+use Rattle.structure_list.specs.flow_rules.ChargeSteps.{beside_steps}
+use Rattle.structure_list.specs.pgraph.declared.cover.Cover.{Cover}
 
 -- a unit beside a set is below 128
 abbrev pub IsBesideSmall : Cover → Type 0

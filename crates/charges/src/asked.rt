@@ -1,10 +1,10 @@
 //! The use of a material that is asked for.
 ghost use Rattle.std.specs.Prelude.{◌≡◌, ◌<◌, ◌≤◌, ◌+◌, ◌-◌, ◌^◌, ◌+ℤ◌, ◌-ℤ◌, ◌*ℤ◌, length, IfOk};
 ghost use Rattle.std.specs.Prelude.{IfErr, OnOk};
-ghost use Rattle.flow_rules.specs.Net.{net_of};
-ghost use Rattle.flow_rules.specs.Steps.{AreInRange, IsFirstPast};
-ghost use Rattle.flow_rules.specs.Charge.{demanded};
-ghost use Rattle.flow_rules.specs.ChargeSteps.{demand_steps};
+ghost use Rattle.structure_list.specs.flow_rules.Net.{net_of};
+ghost use Rattle.structure_list.specs.flow_rules.Steps.{AreInRange, IsFirstPast};
+ghost use Rattle.structure_list.specs.flow_rules.Charge.{demanded};
+ghost use Rattle.structure_list.specs.flow_rules.ChargeSteps.{demand_steps};
 ghost use Rattle.charges.specs.Known.{asked_of, facts_of};
 ghost use Rattle.charges.specs.Columns.{worth_asked, rate_asked, used_steps};
 
@@ -12,9 +12,8 @@ use crate::facts::{Demand, Facts};
 use crate::products::quick_product;
 use crate::running::Running;
 use crate::useful::{rate_of, use_rate_of};
-use flow_program::PastSum;
-use exact_numbers::{checked_difference, checked_sum};
-use pgraph::Site;
+use flow_program::{PastSum, checked_difference, checked_sum};
+use structure_list::Site;
 
 /// What the use of a material is worth, and the rate at which a unit uses it.
 #[derive(Clone, Copy)]

@@ -3,15 +3,14 @@ ghost use Rattle.std.specs.Prelude.{◌≡◌, ◌<◌, ◌≤◌, ◌+◌, ◌-
 ghost use Rattle.std.specs.Prelude.{pos, neg_ℤ, not, length, IfOk, IfErr, OnOk};
 ghost use Rattle.std.specs.Int.{int_min};
 ghost use Rattle.std.specs.Ordering.{int_eq};
-ghost use Rattle.flow_rules.specs.Steps.{AreInRange, IsFirstPast};
-ghost use Rattle.flow_rules.specs.Charge.{bent, counted};
-ghost use Rattle.flow_rules.specs.ChargeSteps.{knee_steps};
+ghost use Rattle.structure_list.specs.flow_rules.Steps.{AreInRange, IsFirstPast};
+ghost use Rattle.structure_list.specs.flow_rules.Charge.{bent, counted};
+ghost use Rattle.structure_list.specs.flow_rules.ChargeSteps.{knee_steps};
 ghost use Rattle.charges.specs.Bends.{as_owed, knee, three_steps, knees_in};
 
 use crate::knees::{Knees, first_knee};
 use crate::products::quick_product;
-use flow_program::PastSum;
-use exact_numbers::{checked_difference, checked_sum};
+use flow_program::{PastSum, checked_difference, checked_sum};
 
 /// What is left of the cost of a size, and what the unit owes on top of it.
 #[derive(Clone, Copy)]

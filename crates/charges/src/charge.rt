@@ -1,21 +1,22 @@
 //! The charge of a node, put together.
 ghost use Rattle.std.specs.Prelude.{◌≡◌, ◌<◌, ◌≤◌, ◌+◌, ◌-◌, ◌++◌, ◌+ℤ◌, ℕ, List, pos, true};
 ghost use Rattle.std.specs.Prelude.{length, IfOk, IfErr, OnOk};
-ghost use Rattle.integer_laws.specs.Total.{total};
-ghost use Rattle.number_sets.specs.Sets.{has};
-ghost use Rattle.pns_rules.specs.Shape.{shape_of};
-ghost use Rattle.pgraph.specs.View.{node_of};
-ghost use Rattle.flow_rules.specs.Net.{net_of, beside};
-ghost use Rattle.flow_rules.specs.Relaxed.{units, rows};
-ghost use Rattle.flow_rules.specs.Steps.{AreInRange, IsFirstPast};
+ghost use Rattle.structure_list.specs.integer_laws.Total.{total};
+ghost use Rattle.structure_list.specs.number_sets.Sets.{has};
+ghost use Rattle.structure_list.specs.pns_rules.Shape.{shape_of};
+ghost use Rattle.structure_list.specs.pgraph.View.{node_of};
+ghost use Rattle.structure_list.specs.flow_rules.Net.{net_of, beside};
+ghost use Rattle.structure_list.specs.flow_rules.Relaxed.{units, rows};
+ghost use Rattle.structure_list.specs.flow_rules.Steps.{AreInRange, IsFirstPast};
 ghost use Rattle.flow_program.specs.Entry.{entry};
 ghost use Rattle.flow_program.specs.Rates.{AreRates};
-ghost use Rattle.flow_rules.specs.Charge.{unit_part, charge};
-ghost use Rattle.flow_rules.specs.ChargeSteps.{paid_steps, units_steps, charge_steps};
+ghost use Rattle.structure_list.specs.flow_rules.Charge.{unit_part, charge};
+ghost use Rattle.structure_list.specs.flow_rules.ChargeSteps.{paid_steps, units_steps};
+ghost use Rattle.structure_list.specs.flow_rules.ChargeSteps.{charge_steps};
 ghost use Rattle.charges.specs.Known.{facts_of};
-ghost use Rattle.pgraph.specs.CoversView.{covers_of};
+ghost use Rattle.structure_list.specs.pgraph.CoversView.{covers_of};
 ghost use Rattle.charges.specs.Sets.{AreBesideSmall};
-ghost use Rattle.flow_rules.specs.Cover as rules;
+ghost use Rattle.structure_list.specs.flow_rules.Cover as rules;
 ghost use Rattle.charges.specs.Ground.{IsGround, ArePaid};
 
 use crate::asked::{used_by, with_worth};
@@ -28,10 +29,8 @@ use crate::running::Running;
 use crate::tables::table_of;
 use crate::unit::{Multipliers, Terms, costs_of, with_unit};
 use crate::useful::{Useful, useful_at};
-use pgraph::Cover;
 use flow_program::{PastSum, put_rates, sets_of};
-use pgraph::Site;
-use unit_sets::{Node, UnitSet};
+use structure_list::{Cover, Node, Site, UnitSet};
 
 /// What a charge is formed from: the multiplier of the cost, one multiplier for each row of the
 /// node in rising order, and covers.

@@ -1,16 +1,13 @@
 //! Sets of units of which each structure of a node has one.
 ghost use Rattle.std.specs.Prelude.{◌≡◌, ◌<◌, ◌↔◌, ◌||◌, ℕ, Bool, true, false, IsTrue, IfSome};
-ghost use Rattle.number_sets.specs.Sets.{has};
-ghost use Rattle.pns_rules.specs.Structure.{IsBetween};
-ghost use Rattle.pgraph.specs.Tables.{shape};
-ghost use Rattle.pgraph.specs.View.{node_of};
-ghost use Rattle.flow_rules.specs.Cover.{Covers, IsCover, IsFree, is_beside};
-ghost use Rattle.pgraph.specs.CoversView.{cover_of};
+ghost use Rattle.structure_list.specs.number_sets.Sets.{has};
+ghost use Rattle.structure_list.specs.pns_rules.Structure.{IsBetween};
+ghost use Rattle.structure_list.specs.pgraph.Tables.{shape};
+ghost use Rattle.structure_list.specs.pgraph.View.{node_of};
+ghost use Rattle.structure_list.specs.flow_rules.Cover.{Covers, IsCover, IsFree, is_beside};
+ghost use Rattle.structure_list.specs.pgraph.CoversView.{cover_of};
 
-use pgraph::Cover;
-use structure_list::maximal;
-use pgraph::Graph;
-use unit_sets::{Node, UnitSet};
+use structure_list::{Cover, Graph, Node, UnitSet, maximal};
 
 /// Whether no solution structure, clash-free or not, contains `inside` and avoids `outside`.
 fn none_between(graph: &Graph, inside: UnitSet, outside: UnitSet) -> bool

@@ -1,10 +1,10 @@
 //! What is known of the flows that matter at a node.
 ghost use Rattle.std.specs.Prelude.{◌≡◌, ◌<◌};
-ghost use Rattle.flow_rules.specs.Net.{net_of};
-ghost use Rattle.flow_rules.specs.ChargeFacts.{own_facts};
+ghost use Rattle.structure_list.specs.flow_rules.Net.{net_of};
+ghost use Rattle.structure_list.specs.flow_rules.ChargeFacts.{own_facts};
 ghost use Rattle.charges.specs.Known.{demand_of, asked_of, facts_of, at_one, known_at};
 
-use pns_problem::Problem;
+use structure_list::Problem;
 
 /// A material of which at least so much is used, in millionths, and what the sum gets for each part
 /// of its use.

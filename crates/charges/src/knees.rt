@@ -1,16 +1,16 @@
 //! The sizes above which a unit's outputs are worth nothing.
 ghost use Rattle.std.specs.Prelude.{◌≡◌, ◌<◌, ◌≤◌, ◌^◌, ◌*ℤ◌, ◌<ℤ◌, ◌&&◌, ◌||◌, ◌==◌, ℕ, true};
 ghost use Rattle.std.specs.Prelude.{int_lt, pos, [], length, unsigned_abs, IfSome, IfNone};
-ghost use Rattle.integer_laws.specs.Range.{InRange};
-ghost use Rattle.number_sets.specs.Sets.{has};
+ghost use Rattle.structure_list.specs.integer_laws.Range.{InRange};
+ghost use Rattle.structure_list.specs.number_sets.Sets.{has};
 ghost use Rattle.flow_program.specs.Entry.{entry};
-ghost use Rattle.flow_rules.specs.Charge.{rounded_up};
+ghost use Rattle.structure_list.specs.flow_rules.Charge.{rounded_up};
 ghost use Rattle.charges.specs.Bends.{IsKnee};
 ghost use Rattle.charges.specs.Firsts.{IsFirstLeast};
 
 use crate::products::quick_product;
 use crate::useful::Useful;
-use unit_sets::MatSet;
+use structure_list::MatSet;
 
 /// The outputs of a unit that have knees, with the size of each knee, and what the output is worth
 /// for each part of the size.

@@ -35,9 +35,17 @@ mod useful;
 
 pub use charge::{Charge, charge_of};
 pub use cover::{covers_node, is_cover, is_free};
-pub use pgraph::Cover;
 pub use facts::{Demand, Facts};
+pub use flow_program::{
+    CostOver, Frac, Mixed, NodeSets, bound_of, by_material, checked_product, cost_of, feasible,
+    full_range, gcd, put_rates, refutes, sets_of, unit_numbers,
+};
 pub use knees::rounded_up;
 pub use made::makers_most;
+pub use structure_list::{
+    Cover, Covers, Exclusion, Graph, Kind, MatSet, Material, Node, OpenFault, OperatingUnit,
+    Problem, Site, Step, Steps, StructureList, Term, UnitSet, generate, maximal, print_token,
+    read_token,
+};
 pub use unit::{Costs, costs_of};
 pub use useful::{most_used, rate_of};

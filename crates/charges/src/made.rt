@@ -2,15 +2,14 @@
 ghost use Rattle.std.specs.Prelude.{◌≡◌, ◌<◌, ◌≤◌, ◌^◌, ◌*◌, ◌*ℤ◌, ℕ, pos, true, length};
 ghost use Rattle.std.specs.Prelude.{unsigned_abs};
 ghost use Rattle.std.specs.Int.{int_max};
-ghost use Rattle.integer_laws.specs.Total.{total};
-ghost use Rattle.number_sets.specs.Sets.{has};
-ghost use Rattle.flow_rules.specs.Net.{net_of};
+ghost use Rattle.structure_list.specs.integer_laws.Total.{total};
+ghost use Rattle.structure_list.specs.number_sets.Sets.{has};
+ghost use Rattle.structure_list.specs.flow_rules.Net.{net_of};
 ghost use Rattle.charges.specs.Known.{facts_of};
 
 use crate::facts::Facts;
 use crate::useful::{rate_of, times};
-use pgraph::Site;
-use unit_sets::UnitSet;
+use structure_list::{Site, UnitSet};
 
 /// The rate at which a unit makes a material, if it has it at this rate.
 fn make_rate_of(rate: i64) -> i64

@@ -1,19 +1,18 @@
 //! What the covers add to a charge and pay to its units.
 ghost use Rattle.std.specs.Prelude.{◌≡◌, ◌<◌, ◌≤◌, ◌+◌, ◌-◌, ◌*◌, ◌^◌, ◌+ℤ◌, ◌-ℤ◌, ℕ, pos, Bool};
 ghost use Rattle.std.specs.Prelude.{cond, length, map, IfSome, IfOk, IfErr, OnOk};
-ghost use Rattle.number_sets.specs.Sets.{has};
-ghost use Rattle.flow_rules.specs.Steps.{AreInRange, IsFirstPast};
+ghost use Rattle.structure_list.specs.number_sets.Sets.{has};
+ghost use Rattle.structure_list.specs.flow_rules.Steps.{AreInRange, IsFirstPast};
 ghost use Rattle.flow_program.specs.Entry.{entry};
-ghost use Rattle.flow_rules.specs.Cover.{added, weights, paid, paid_by};
-ghost use Rattle.flow_rules.specs.ChargeSteps.{added_steps, weight_steps, paid_steps};
-ghost use Rattle.pgraph.specs.CoversView.{cover_of, covers_of};
+ghost use Rattle.structure_list.specs.flow_rules.Cover.{added, weights, paid, paid_by};
+ghost use Rattle.structure_list.specs.flow_rules.ChargeSteps.{added_steps, weight_steps};
+ghost use Rattle.structure_list.specs.flow_rules.ChargeSteps.{paid_steps};
+ghost use Rattle.structure_list.specs.pgraph.CoversView.{cover_of, covers_of};
 ghost use Rattle.charges.specs.Sets.{cover_steps, IsBesideSmall, AreBesideSmall};
 
 use crate::running::Running;
-use pgraph::Cover;
-use flow_program::PastSum;
-use exact_numbers::{checked_difference, checked_sum};
-use unit_sets::UnitSet;
+use flow_program::{PastSum, checked_difference, checked_sum};
+use structure_list::{Cover, UnitSet};
 
 /// The sum with the weight of a set, if that is about each structure.
 fn with_weight(from: Running, beside: Option<u32>, weight: i128) -> Result<Running, PastSum>

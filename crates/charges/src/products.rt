@@ -2,14 +2,13 @@
 ghost use Rattle.std.specs.Prelude.{◌≡◌, ◌<◌, ◌≤◌, ◌+◌, ◌-◌, ◌^◌, ◌+ℤ◌, ◌*ℤ◌, ◌≤ℤ◌, IfOk, IfErr};
 ghost use Rattle.std.specs.Prelude.{OnOk};
 ghost use Rattle.std.specs.Option.{SomeIff};
-ghost use Rattle.integer_laws.specs.Range.{InRange};
-ghost use Rattle.flow_rules.specs.Steps.{AreInRange, IsFirstPast};
-ghost use Rattle.flow_rules.specs.BoundSteps.{least_steps};
+ghost use Rattle.structure_list.specs.integer_laws.Range.{InRange};
+ghost use Rattle.structure_list.specs.flow_rules.Steps.{AreInRange, IsFirstPast};
+ghost use Rattle.structure_list.specs.flow_rules.BoundSteps.{least_steps};
 ghost use Rattle.flow_program.specs.Columns.{least_of};
 
 use crate::running::Running;
-use flow_program::PastSum;
-use exact_numbers::{checked_product, checked_sum};
+use flow_program::{PastSum, checked_product, checked_sum};
 
 /// The product of two short numbers, which is in range.
 fn short_product(a: i64, b: i64) -> i128

@@ -1,21 +1,20 @@
 //! The parts of the rows in a charge.
 ghost use Rattle.std.specs.Prelude.{◌≡◌, ◌<◌, ◌≤◌, ℕ, pos, true, length, IfOk, IfErr, OnOk};
-ghost use Rattle.integer_laws.specs.Total.{total};
-ghost use Rattle.number_sets.specs.Sets.{has};
-ghost use Rattle.pns_rules.specs.Shape.{shape_of};
-ghost use Rattle.pgraph.specs.View.{node_of};
-ghost use Rattle.flow_rules.specs.Net.{net_of};
-ghost use Rattle.flow_rules.specs.Relaxed.{row_part};
-ghost use Rattle.flow_rules.specs.Steps.{AreInRange, IsFirstPast};
-ghost use Rattle.flow_rules.specs.BoundSteps.{rows_steps};
+ghost use Rattle.structure_list.specs.integer_laws.Total.{total};
+ghost use Rattle.structure_list.specs.number_sets.Sets.{has};
+ghost use Rattle.structure_list.specs.pns_rules.Shape.{shape_of};
+ghost use Rattle.structure_list.specs.pgraph.View.{node_of};
+ghost use Rattle.structure_list.specs.flow_rules.Net.{net_of};
+ghost use Rattle.structure_list.specs.flow_rules.Relaxed.{row_part};
+ghost use Rattle.structure_list.specs.flow_rules.Steps.{AreInRange, IsFirstPast};
+ghost use Rattle.structure_list.specs.flow_rules.BoundSteps.{rows_steps};
 ghost use Rattle.flow_program.specs.Entry.{entry};
 ghost use Rattle.flow_program.specs.NodeSets.{AreNeeded};
 
 use crate::products::with_least;
 use crate::running::Running;
 use flow_program::{PastSum, row_range};
-use pns_problem::Problem;
-use unit_sets::{MatSet, Node};
+use structure_list::{MatSet, Node, Problem};
 
 /// The sum of the parts of the rows, whose first step has the number 0.
 pub(crate) fn rows_sum(

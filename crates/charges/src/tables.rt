@@ -1,9 +1,9 @@
 //! Multipliers, found by the numbers of their materials.
 ghost use Rattle.std.specs.Prelude.{◌≡◌, ℕ, length};
-ghost use Rattle.flow_rules.specs.Net.{beside};
+ghost use Rattle.structure_list.specs.flow_rules.Net.{beside};
 ghost use Rattle.flow_program.specs.Entry.{entry};
 
-use unit_sets::MatSet;
+use structure_list::MatSet;
 
 /// The value of each material of the set, 0 for each other.
 pub(crate) fn table_of(set: MatSet, values: &[i128]) -> [i128; 256]

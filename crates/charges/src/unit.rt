@@ -1,15 +1,15 @@
 //! The part of a unit in a charge.
 ghost use Rattle.std.specs.Prelude.{◌≡◌, ◌<◌, ◌≤◌, ◌+◌, ◌-◌, ◌*◌, ◌^◌, ◌+ℤ◌, ◌-ℤ◌, ◌*ℤ◌, ℕ, pos};
 ghost use Rattle.std.specs.Prelude.{int_lt, ◌||◌, [], ◌∷◌, length, unsigned_abs, IfOk, IfErr, OnOk};
-ghost use Rattle.pns_rules.specs.Shape.{shape_of};
-ghost use Rattle.flow_rules.specs.Net.{net_of, trillion, size_cost};
-ghost use Rattle.flow_rules.specs.Steps.{AreInRange, IsFirstPast};
-ghost use Rattle.flow_rules.specs.BoundSteps.{reduced_steps};
+ghost use Rattle.structure_list.specs.pns_rules.Shape.{shape_of};
+ghost use Rattle.structure_list.specs.flow_rules.Net.{net_of, trillion, size_cost};
+ghost use Rattle.structure_list.specs.flow_rules.Steps.{AreInRange, IsFirstPast};
+ghost use Rattle.structure_list.specs.flow_rules.BoundSteps.{reduced_steps};
 ghost use Rattle.flow_program.specs.Columns.{left_of};
 ghost use Rattle.flow_program.specs.Entry.{entry};
 ghost use Rattle.flow_program.specs.Rates.{AreRates};
-ghost use Rattle.flow_rules.specs.Charge.{bent, least_owed, or_none};
-ghost use Rattle.flow_rules.specs.ChargeSteps.{knee_steps, size_steps, sum_steps};
+ghost use Rattle.structure_list.specs.flow_rules.Charge.{bent, least_owed, or_none};
+ghost use Rattle.structure_list.specs.flow_rules.ChargeSteps.{knee_steps, size_steps, sum_steps};
 ghost use Rattle.charges.specs.Bends.{as_owed, knees_in};
 ghost use Rattle.charges.specs.Columns.{each_in, each_steps, owed_in, owed_steps, bent_steps};
 ghost use Rattle.charges.specs.Columns.{charge_in, column_steps};
@@ -19,10 +19,8 @@ use crate::bending::{Owed, Sizes, bent};
 use crate::knees::Knees;
 use crate::products::{quick_product, with_least};
 use crate::running::Running;
-use flow_program::{PastSum, fixed_costs, unit_numbers};
-use exact_numbers::{checked_difference, checked_sum};
-use pns_problem::Problem;
-use unit_sets::{MatSet, Node, UnitSet};
+use flow_program::{PastSum, checked_difference, checked_sum, fixed_costs, unit_numbers};
+use structure_list::{MatSet, Node, Problem, UnitSet};
 
 /// The multiplier of the cost, and those of the rows by material.
 #[derive(Drop)]

@@ -2,22 +2,21 @@
 ghost use Rattle.std.specs.Prelude.{◌≡◌, ◌<◌, ◌≤◌, ◌^◌, ◌*◌, ◌*ℤ◌, ◌+ℤ◌, neg_ℤ, ℕ, pos, true};
 ghost use Rattle.std.specs.Prelude.{length, unsigned_abs};
 ghost use Rattle.std.specs.Int.{int_max, int_min};
-ghost use Rattle.integer_laws.specs.Total.{total};
-ghost use Rattle.number_sets.specs.Sets.{has};
-ghost use Rattle.pns_rules.specs.Shape.{shape_of};
-ghost use Rattle.pgraph.specs.View.{node_of};
-ghost use Rattle.flow_rules.specs.Net.{net_of};
-ghost use Rattle.flow_rules.specs.Relaxed.{units};
+ghost use Rattle.structure_list.specs.integer_laws.Total.{total};
+ghost use Rattle.structure_list.specs.number_sets.Sets.{has};
+ghost use Rattle.structure_list.specs.pns_rules.Shape.{shape_of};
+ghost use Rattle.structure_list.specs.pgraph.View.{node_of};
+ghost use Rattle.structure_list.specs.flow_rules.Net.{net_of};
+ghost use Rattle.structure_list.specs.flow_rules.Relaxed.{units};
 ghost use Rattle.flow_program.specs.NodeSets.{AreSetsOf};
-ghost use Rattle.flow_rules.specs.ChargeFacts.{use_rate};
-ghost use Rattle.flow_rules.specs.Charge.{users_most, at_most, useful};
+ghost use Rattle.structure_list.specs.flow_rules.ChargeFacts.{use_rate};
+ghost use Rattle.structure_list.specs.flow_rules.Charge.{users_most, at_most, useful};
 ghost use Rattle.charges.specs.Known.{facts_of};
 ghost use Rattle.charges.specs.Ground.{AreUseful};
 
 use crate::facts::Facts;
 use flow_program::{NodeSets, rate_at, row_range};
-use pgraph::Site;
-use unit_sets::{MatSet, Node, UnitSet};
+use structure_list::{MatSet, Node, Site, UnitSet};
 
 /// The materials that may have knees, and what can be used of each of them, with what has to be
 /// left over.

@@ -7,13 +7,13 @@ use Rattle.std.specs.Str.{bytes_eq}
 use Rattle.std.proofs.lemmas.List.{length-map, length-take}
 use Rattle.std.proofs.lemmas.List.Splits.{length-slice_split}
 use Rattle.std.proofs.lemmas.List.Sums.{count_by-le-length}
-use Rattle.edit_rules.specs.Edit.{Edit, Script}
-use Rattle.text_rules.specs.Line.{without_return, without_empty_last, without_remark}
-use Rattle.edit_rules.specs.declared.EditKind.{EditKind}
-use Rattle.edit_rules.specs.declared.EditKind.TheVariants.{FileType}
-use Rattle.edit_rules.specs.ScriptFault.{Fault}
-use Rattle.edit_rules.specs.Line.{file_type, is_feed, script_lines}
-use Rattle.edit_rules.specs.Read.{with_line, line_read, lines_read, text_read, read_script}
+use Rattle.pns_text.specs.edit_rules.Edit.{Edit, Script}
+use Rattle.pns_text.specs.text_rules.Line.{without_return, without_empty_last, without_remark}
+use Rattle.pns_text.specs.edit_rules.declared.EditKind.{EditKind}
+use Rattle.pns_text.specs.edit_rules.declared.EditKind.TheVariants.{FileType}
+use Rattle.pns_text.specs.edit_rules.ScriptFault.{Fault}
+use Rattle.pns_text.specs.edit_rules.Line.{file_type, is_feed, script_lines}
+use Rattle.pns_text.specs.edit_rules.Read.{with_line, line_read, lines_read, text_read, read_script}
 
 -- the edits of a script that was read, none of one that was not
 abbrev edit_count : Result Script Fault → ℕ

@@ -4,15 +4,18 @@ use Rattle.std.proofs.Common.{inl, inr, append_assoc, append-nil, codes}
 use Rattle.std.specs.Prelude.{Result, Ok, Err, IfOk, MatchResult}
 use Rattle.std.specs.Io.KnownBytes.{Appends}
 use Rattle.std.proofs.KnownBytes.{Appends-trans}
-use Rattle.text_rules.specs.Outside.{HasRisen, AppendsFront}
-use Rattle.text_rules.specs.State.{ShelfState, SinkState, OutputsState}
-use Rattle.studio_rules.specs.Lines.{line, text_of}
-use Rattle.studio_rules.specs.Ending.{Ends, Tells, Says, Only, OrMemory, IsShared, Writes}
-use Rattle.studio_rules.specs.Ending.{WritesFront, HasFault}
-use Rattle.studio_rules.specs.declared.status.Status.{Status}
-use Rattle.studio_rules.specs.declared.status.Status.TheVariants.{Done, Refused, NotBest, Past}
-use Rattle.studio_rules.specs.declared.status.Status.TheVariants.{Spent, ReadFault, WriteFault}
-use Rattle.studio_rules.specs.declared.status.Status.TheVariants.{Memory}
+use Rattle.pns_text.specs.text_rules.Outside.{HasRisen, AppendsFront}
+use Rattle.pns_text.specs.text_rules.State.{ShelfState, SinkState, OutputsState}
+use Rattle.studio_words.specs.studio_rules.Lines.{line, text_of}
+use Rattle.studio_words.specs.studio_rules.Ending.{Ends, Tells, Says, Only, OrMemory, IsShared}
+use Rattle.studio_words.specs.studio_rules.Ending.{Writes}
+use Rattle.studio_words.specs.studio_rules.Ending.{WritesFront, HasFault}
+use Rattle.studio_words.specs.studio_rules.declared.status.Status.{Status}
+use Rattle.studio_words.specs.studio_rules.declared.status.Status.TheVariants.{Done, Refused}
+use Rattle.studio_words.specs.studio_rules.declared.status.Status.TheVariants.{NotBest, Past}
+use Rattle.studio_words.specs.studio_rules.declared.status.Status.TheVariants.{Spent, ReadFault}
+use Rattle.studio_words.specs.studio_rules.declared.status.Status.TheVariants.{WriteFault}
+use Rattle.studio_words.specs.studio_rules.declared.status.Status.TheVariants.{Memory}
 
 -- what allows more
 pub Ends-map : (P Q : Status → List ℕ → Type 0) (old new : OutputsState) (status : Status)

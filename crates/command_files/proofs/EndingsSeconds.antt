@@ -1,7 +1,7 @@
 -- Second lines that are fixed.
 use Rattle.std.proofs.Common.{◌≡◌, ◌≤◌, ◌∷◌, [], ℕ, List, Bool, true, ◌&&◌, leb, leb-true}
 use Rattle.std.proofs.lemmas.Bool.{and_parts}
-use Rattle.problem_rules.specs.Each.{Each}
+use Rattle.pns_text.specs.problem_rules.Each.{Each}
 
 -- all bytes are printable
 abbrev pub printable : List ℕ → Bool

@@ -3,17 +3,18 @@ use Rattle.std.proofs.Common.{◌≡◌, ◌<◌, ℕ, List, Some, None, length,
 use Rattle.std.proofs.Common.{replicate, Bool, true, false, Option, Result, Ok, ◌+◌}
 use Rattle.std.specs.Prelude.{if◌then◌else◌}
 use Rattle.std.proofs.lemmas.List.{length-replicate}
-use Rattle.text_rules.specs.declared.TextKind.TheVariants.{FileType}
-use Rattle.text_rules.specs.Fault.{Fault, seen_none, first_fault, first_is_type}
-use Rattle.text_rules.specs.Line.{lines_of, body_of, meant_of}
-use Rattle.text_rules.specs.Outside.{Told, IfTold}
-use Rattle.text_rules.specs.Value.{or_first, meaning_at}
-use Rattle.text_rules.specs.State.{ShelfState}
-use Rattle.problem_rules.specs.Problem.{Problem}
-use Rattle.studio_rules.specs.Ending.{Tells, Says}
-use Rattle.studio_rules.specs.declared.status.Status.{Status}
-use Rattle.studio_rules.specs.Reading.{AreHeld, FileFaults, GivesProblem, OnFile, OnText, FileSays}
-use Rattle.studio_rules.specs.Reading.{TextSays}
+use Rattle.pns_text.specs.text_rules.declared.TextKind.TheVariants.{FileType}
+use Rattle.pns_text.specs.text_rules.Fault.{Fault, seen_none, first_fault, first_is_type}
+use Rattle.pns_text.specs.text_rules.Line.{lines_of, body_of, meant_of}
+use Rattle.pns_text.specs.text_rules.Outside.{Told, IfTold}
+use Rattle.pns_text.specs.text_rules.Value.{or_first, meaning_at}
+use Rattle.pns_text.specs.text_rules.State.{ShelfState}
+use Rattle.pns_text.specs.problem_rules.Problem.{Problem}
+use Rattle.studio_words.specs.studio_rules.Ending.{Tells, Says}
+use Rattle.studio_words.specs.studio_rules.declared.status.Status.{Status}
+use Rattle.studio_words.specs.studio_rules.Reading.{AreHeld, FileFaults, GivesProblem, OnFile}
+use Rattle.studio_words.specs.studio_rules.Reading.{OnText, FileSays}
+use Rattle.studio_words.specs.studio_rules.Reading.{TextSays}
 use Rattle.command_files.proofs.Ending.{Says-map, Says-told}
 
 -- a file that is too long, also if the shelf knows nothing of it

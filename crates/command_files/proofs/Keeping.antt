@@ -1,7 +1,7 @@
 -- A shelf that nothing is read from is kept, and so is one over two calls that keep it.
 use Rattle.std.proofs.Common.{◌∙◌, refl, arith}
-use Rattle.text_rules.specs.State.{ShelfState}
-use Rattle.studio_rules.specs.Keeps.{Keeps}
+use Rattle.pns_text.specs.text_rules.State.{ShelfState}
+use Rattle.studio_words.specs.studio_rules.Keeps.{Keeps}
 
 pub keeps_same : (shelf : ShelfState) → Keeps shelf shelf
 keeps_same shelf = record { held = λ name. refl; later = λ name. omega arith }

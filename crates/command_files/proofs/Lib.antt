@@ -1,3 +1,4 @@
+pub mod Cited
 pub mod EditCounts
 pub mod Ending
 pub mod EndingsSeconds
@@ -7,3 +8,7 @@ pub mod Names
 pub mod Printing
 pub mod Put
 pub mod Seconds
+pub use Rattle.studio_words.proofs.studio_rules as studio_rules
+pub use Rattle.pns_edits.proofs.edit_laws as edit_laws
+pub use Rattle.pns_edits.proofs.edit_scripts as edit_scripts
+pub use Rattle.studio_words.proofs as studio_words

@@ -5,9 +5,9 @@ use Rattle.std.proofs.Common.{ne_eqb, eq-eqb}
 use Rattle.std.specs.Prelude.{if◌then◌else◌}
 use Rattle.std.proofs.lemmas.List.{append_assoc, append-nil, length-map}
 use Rattle.std.proofs.lemmas.Bool.{or_left}
-use Rattle.number_sets.specs.Sets.{has, IsBelowAll}
-use Rattle.number_sets.proofs.SetLemmas.{below_not_had}
-use Rattle.studio_rules.specs.Lines.{names_in, spaced_names}
+use Rattle.pns_text.specs.number_sets.Sets.{has, IsBelowAll}
+use Rattle.pns_text.proofs.number_sets.Cited.{below_not_had}
+use Rattle.studio_words.specs.studio_rules.Lines.{names_in, spaced_names}
 
 names_same : (s t : ℕ → Bool) (k : ℕ) (ns : List (List ℕ))
     → ((i : ℕ) → k ≤ i → i < k + length ns → s i ≡ t i) → names_in s k ns ≡ names_in t k ns

@@ -2,20 +2,21 @@
 use Rattle.std.proofs.Common.{◌≡◌, ◌≤◌, ◌++◌, ◌∷◌, [], ℕ, List, Ok, Err, refl, sym, ap, ◌∙◌, subst}
 use Rattle.std.proofs.Common.{inl, inr, append-nil, codes}
 use Rattle.std.specs.Io.KnownBytes.{Appends}
-use Rattle.text_rules.specs.Outside.{AppendsFront}
-use Rattle.text_rules.specs.State.{OutputsState}
-use Rattle.text_rules.specs.Canonical.{joined}
-use Rattle.tree_text_rules.specs.Line.{Token}
-use Rattle.tree_text_rules.specs.Spelling as trees
+use Rattle.pns_text.specs.text_rules.Outside.{AppendsFront}
+use Rattle.pns_text.specs.text_rules.State.{OutputsState}
+use Rattle.pns_text.specs.text_rules.Canonical.{joined}
+use Rattle.tree_reading.specs.tree_text_rules.Line.{Token}
+use Rattle.tree_reading.specs.tree_text_rules.Spelling as trees
 use Rattle.tree_text.specs.Prints.{Prints}
 pub use Rattle.tree_text.proofs.Printed.{two_printed, part_failed}
 use Rattle.tree_text.specs.declared.fault.PrintFault.TheVariants as faults
-use Rattle.studio_rules.specs.Lines.{line, text_of}
-use Rattle.studio_rules.specs.Printed.{spelled, OneAnswer}
-use Rattle.studio_rules.specs.Ending.{Ends, Tells, Only, IsOneOf}
-use Rattle.studio_rules.specs.declared.status.Status.{Status}
-use Rattle.studio_rules.specs.declared.status.Status.TheVariants.{Done, Past, Spent, Memory}
-use Rattle.studio_rules.specs.declared.status.Status.TheVariants.{WriteFault}
+use Rattle.studio_words.specs.studio_rules.Lines.{line, text_of}
+use Rattle.studio_words.specs.studio_rules.Printed.{spelled, OneAnswer}
+use Rattle.studio_words.specs.studio_rules.Ending.{Ends, Tells, Only, IsOneOf}
+use Rattle.studio_words.specs.studio_rules.declared.status.Status.{Status}
+use Rattle.studio_words.specs.studio_rules.declared.status.Status.TheVariants.{Done, Past, Spent}
+use Rattle.studio_words.specs.studio_rules.declared.status.Status.TheVariants.{Memory}
+use Rattle.studio_words.specs.studio_rules.declared.status.Status.TheVariants.{WriteFault}
 use Rattle.command_files.proofs.Ending.{Ends-after, GoesOut, only_in}
 use Rattle.command_files.proofs.Put.{IsText, Ends-whole, Ends-stopped}
 

@@ -3,15 +3,18 @@ use Rattle.std.proofs.Common.{◌≡◌, ◌++◌, ◌∷◌, [], length, arith,
 use Rattle.std.proofs.Common.{subst, ◌∙◌, inl, inr, append_assoc, append-nil, codes}
 use Rattle.std.specs.Io.KnownBytes.{Appends}
 use Rattle.std.proofs.KnownBytes.{Appends-nil, Appends-trans}
-use Rattle.text_rules.specs.Outside.{HasRisen, AppendsFront}
-use Rattle.text_rules.specs.State.{SinkState, OutputsState}
-use Rattle.studio_rules.specs.Lines.{line}
-use Rattle.studio_rules.specs.Seconds.{AreSeconds}
-use Rattle.studio_rules.specs.Ending.{Ends, Only, IsShared, Writes, IsAnswer, IsUnfinished}
-use Rattle.studio_rules.specs.Ending.{IsRefusal}
-use Rattle.studio_rules.specs.declared.status.Status.{Status}
-use Rattle.studio_rules.specs.declared.status.Status.TheVariants.{Done, Refused, NotBest, Past}
-use Rattle.studio_rules.specs.declared.status.Status.TheVariants.{Spent, WriteFault, Memory}
+use Rattle.pns_text.specs.text_rules.Outside.{HasRisen, AppendsFront}
+use Rattle.pns_text.specs.text_rules.State.{SinkState, OutputsState}
+use Rattle.studio_words.specs.studio_rules.Lines.{line}
+use Rattle.studio_words.specs.studio_rules.Seconds.{AreSeconds}
+use Rattle.studio_words.specs.studio_rules.Ending.{Ends, Only, IsShared, Writes, IsAnswer}
+use Rattle.studio_words.specs.studio_rules.Ending.{IsUnfinished}
+use Rattle.studio_words.specs.studio_rules.Ending.{IsRefusal}
+use Rattle.studio_words.specs.studio_rules.declared.status.Status.{Status}
+use Rattle.studio_words.specs.studio_rules.declared.status.Status.TheVariants.{Done, Refused}
+use Rattle.studio_words.specs.studio_rules.declared.status.Status.TheVariants.{NotBest, Past}
+use Rattle.studio_words.specs.studio_rules.declared.status.Status.TheVariants.{Spent, WriteFault}
+use Rattle.studio_words.specs.studio_rules.declared.status.Status.TheVariants.{Memory}
 use Rattle.command_files.proofs.Ending.{GoesOut}
 
 -- what was put is the text up to the rest

@@ -1,13 +1,14 @@
 -- What the commands on a file and a second file say, from what is said of each.
 use Rattle.std.proofs.Common.{◌≡◌, ◌≤◌, ◌⊎◌, ℕ, List, inl, inr, subst, sym}
-use Rattle.text_rules.specs.Outside.{Told}
-use Rattle.text_rules.specs.State.{ShelfState}
-use Rattle.problem_rules.specs.Problem.{Problem}
-use Rattle.studio_rules.specs.Reading.{AreHeld, LongFile, IsLong, FileFaults, GivesProblem, OnFile}
-use Rattle.studio_rules.specs.Reading.{OnSecond, OnText, TwoFilesSay, TwoTextsSay}
-use Rattle.studio_rules.specs.Ending.{Says}
-use Rattle.studio_rules.specs.declared.status.Status.{Status}
-use Rattle.studio_rules.specs.declared.status.Status.TheVariants.{TooLong}
+use Rattle.pns_text.specs.text_rules.Outside.{Told}
+use Rattle.pns_text.specs.text_rules.State.{ShelfState}
+use Rattle.pns_text.specs.problem_rules.Problem.{Problem}
+use Rattle.studio_words.specs.studio_rules.Reading.{AreHeld, LongFile, IsLong, FileFaults}
+use Rattle.studio_words.specs.studio_rules.Reading.{GivesProblem, OnFile}
+use Rattle.studio_words.specs.studio_rules.Reading.{OnSecond, OnText, TwoFilesSay, TwoTextsSay}
+use Rattle.studio_words.specs.studio_rules.Ending.{Says}
+use Rattle.studio_words.specs.studio_rules.declared.status.Status.{Status}
+use Rattle.studio_words.specs.studio_rules.declared.status.Status.TheVariants.{TooLong}
 use Rattle.command_files.proofs.Ending.{Says-map, Says-over}
 
 -- a file above its limit is one of the faults of its text

@@ -1,14 +1,13 @@
 //! The bytes of a file.
 ghost use Rattle.std.specs.Prelude.{◌≡◌, ◌≤◌, ◌<◌, ◌^◌, IfOk, IfErr, OnOk, length, string_bytes};
-ghost use Rattle.studio_rules.specs.Reading.{AreHeld, LongFile};
-ghost use Rattle.studio_rules.specs.Ending.{Ends, Says};
-ghost use Rattle.studio_rules.specs.Keeps.{Keeps};
+ghost use Rattle.studio_words.specs.studio_rules.Reading.{AreHeld, LongFile};
+ghost use Rattle.studio_words.specs.studio_rules.Ending.{Ends, Says};
+ghost use Rattle.studio_words.specs.studio_rules.Keeps.{Keeps};
 
 use crate::say::{say_memory, tell_with};
-use studio_words::{read_fault, too_long};
-use pns_io::{Outputs, ReadAllFault, Shelf, Sink, read_all};
 use std::alloc::Global;
-use studio_rules::Status;
+use studio_words::{Status, read_fault, too_long};
+use tree_text::{Outputs, ReadAllFault, Shelf, Sink, read_all};
 
 /// The whole of the file, which may have so many bytes. If it can't be read, or has more, the text
 /// that says so was put, and the status is that of the call.

@@ -38,10 +38,28 @@ mod tree_file;
 mod words;
 
 pub use file::bytes_of;
+pub use periods::{
+    Design, Plan, Run, expand, expanded_is_valid, fold, least_network_is_least_design,
+    no_network_is_no_design, plans_are_short,
+};
 pub use plan_file::plan_of;
+pub use pns_edits::{
+    MigrateFault, migrate, print_script, printed_scripts_read, scripts_are_undone,
+};
+pub use pns_text::canonical_reads;
 pub use problem_file::{plant_of, problem_of};
 pub use rank_words::{network_line, rank_why_word};
 pub use script_file::edited_of;
 pub use status::code_of;
+pub use studio_words::{
+    Command, Format, Item, Notes, Scene, Source, Status, Stop, UnitNames, Warning, bad_node,
+    bad_token, command_of, fault, has_payout, no_leaf, no_network, not_finished, out_of_range,
+    refused, unknown_material, unknown_unit, usage,
+};
 pub use tree_file::{headed_of, say_tree_fault, tree_kind_word, tree_of};
+pub use tree_reading::Headed;
+pub use tree_text::{
+    Effort, Failed, FileShelf, MemShelf, MemSink, NoWatch, OutSink, Outputs, PrintFault, Progress,
+    Shelf, Sink, Watch, print_end, print_network, print_place,
+};
 pub use words::{line_word, say_head, say_node, tell_node, why_word};

@@ -1,12 +1,12 @@
 //! Lines of what is written, in bytes.
 ghost use Rattle.std.specs.Prelude.{◌≡◌, ◌≤◌, ◌++◌, ◌∷◌, ℕ, length, IfOk, OnOk};
-ghost use Rattle.number_sets.specs.Sets.{has};
-ghost use Rattle.problem_rules.specs.Problem.{material_names, unit_names};
-ghost use Rattle.studio_rules.specs.Lines.{line, spaced_names, names_in};
+ghost use Rattle.pns_text.specs.number_sets.Sets.{has};
+ghost use Rattle.pns_text.specs.problem_rules.Problem.{material_names, unit_names};
+ghost use Rattle.studio_words.specs.studio_rules.Lines.{line, spaced_names, names_in};
 
-use pns_problem::{Material, OperatingUnit};
+use pns_text::{Material, OperatingUnit};
 use std::alloc::{AllocError, Global};
-use unit_sets::{MatSet, UnitSet};
+use tree_reading::{MatSet, UnitSet};
 
 fn push_name(bytes: &mut Vec<u8>, name: &str) -> Result<(), AllocError>
     ensures { OnOk result (bytes.new.items ≡ bytes.old.items ++ 32 ∷ name.now) }

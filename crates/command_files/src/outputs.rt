@@ -1,9 +1,9 @@
 //! Bytes that are put on one of the two outputs.
 ghost use Rattle.std.specs.Prelude.{◌≡◌, ◌≤◌, OnOk, OnErr};
 ghost use Rattle.std.specs.Io.KnownBytes.{Appends};
-ghost use Rattle.text_rules.specs.Outside.{HasRisen, AppendsFront};
+ghost use Rattle.pns_text.specs.text_rules.Outside.{HasRisen, AppendsFront};
 
-use pns_io::{Failed, Outputs, Sink};
+use tree_text::{Failed, Outputs, Sink};
 
 /// Puts a piece of an answer on standard output.
 pub fn put_answer<K: Sink, E: Sink>(out: &mut Outputs<K, E>, bytes: &[u8]) -> Result<(), Failed>

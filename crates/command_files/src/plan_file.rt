@@ -1,22 +1,21 @@
 //! A plan file: it is read and judged for a problem.
 ghost use Rattle.std.specs.Prelude.{◌≡◌, ℕ, List, IfOk, IfErr, OnOk, string_bytes};
-ghost use Rattle.studio_rules.specs.Lines.{line};
-ghost use Rattle.plan_rules.specs.Plan.{IsPlan};
-ghost use Rattle.studio_rules.specs.Reading.{AreHeld};
-ghost use Rattle.studio_rules.specs.Plan.{GivesPlan, PlanFaults, plan_fault_line, plan_kind_word};
-ghost use Rattle.studio_rules.specs.Ending.{Ends, Says, Only, OrMemory};
-ghost use Rattle.studio_rules.specs.Keeps.{Keeps};
-ghost use Rattle.studio_rules.specs.declared.status.Status.TheVariants.{BadPlan};
+ghost use Rattle.studio_words.specs.studio_rules.Lines.{line};
+ghost use Rattle.periods.specs.plan_rules.Plan.{IsPlan};
+ghost use Rattle.studio_words.specs.studio_rules.Reading.{AreHeld};
+ghost use Rattle.studio_words.specs.studio_rules.Plan.{GivesPlan, PlanFaults, plan_fault_line};
+ghost use Rattle.studio_words.specs.studio_rules.Plan.{plan_kind_word};
+ghost use Rattle.studio_words.specs.studio_rules.Ending.{Ends, Says, Only, OrMemory};
+ghost use Rattle.studio_words.specs.studio_rules.Keeps.{Keeps};
+ghost use Rattle.studio_words.specs.studio_rules.declared.status.Status.TheVariants.{BadPlan};
 
 use crate::file::bytes_of;
 use crate::say::{say_memory, tell};
-use studio_words::{Format, Source, fault};
-use periods::Plan;
-use periods::{PlanFault, PlanKind, read_plan};
-use pns_io::{Outputs, Shelf, Sink};
-use pns_problem::Problem;
+use periods::{Plan, PlanFault, PlanKind, read_plan};
+use pns_text::Problem;
 use std::alloc::{AllocError, Global};
-use studio_rules::Status;
+use studio_words::{Format, Source, Status, fault};
+use tree_text::{Outputs, Shelf, Sink};
 
 /// The most bytes of a plan file.
 const PLAN_LIMIT: u64 = 4_194_304;

@@ -1,22 +1,19 @@
 //! A problem file: it is read and judged.
 ghost use Rattle.std.specs.Prelude.{◌≡◌, ℕ, List, IfOk, IfErr, OnOk, string_bytes};
-ghost use Rattle.studio_rules.specs.Lines.{line};
-ghost use Rattle.studio_rules.specs.Reading.{AreHeld, GivesProblem, FileFaults};
-ghost use Rattle.studio_rules.specs.Reading.{fault_line};
-ghost use Rattle.studio_rules.specs.Reading.{kind_word};
-ghost use Rattle.studio_rules.specs.Ending.{Ends, Says, Only, OrMemory};
-ghost use Rattle.studio_rules.specs.Keeps.{Keeps};
-ghost use Rattle.studio_rules.specs.declared.status.Status.TheVariants.{BadProblem};
+ghost use Rattle.studio_words.specs.studio_rules.Lines.{line};
+ghost use Rattle.studio_words.specs.studio_rules.Reading.{AreHeld, GivesProblem, FileFaults};
+ghost use Rattle.studio_words.specs.studio_rules.Reading.{fault_line};
+ghost use Rattle.studio_words.specs.studio_rules.Reading.{kind_word};
+ghost use Rattle.studio_words.specs.studio_rules.Ending.{Ends, Says, Only, OrMemory};
+ghost use Rattle.studio_words.specs.studio_rules.Keeps.{Keeps};
+ghost use Rattle.studio_words.specs.studio_rules.declared.status.Status.TheVariants.{BadProblem};
 
 use crate::file::bytes_of;
 use crate::say::{say_memory, tell};
-use studio_words::{Format, Source, fault};
-use pns_io::{Outputs, Shelf, Sink};
-use pns_problem::Problem;
-use pns_text::{TextFault, read_problem};
+use pns_text::{Problem, TextFault, TextKind, read_problem};
 use std::alloc::{AllocError, Global};
-use studio_rules::Status;
-use text_rules::TextKind;
+use studio_words::{Format, Source, Status, fault};
+use tree_text::{Outputs, Shelf, Sink};
 
 /// The most bytes of a problem file.
 const FILE_LIMIT: u64 = 4_194_304;

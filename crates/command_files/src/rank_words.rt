@@ -1,11 +1,11 @@
 //! The words of causes why a ranking is refused, and the line of a network.
 ghost use Rattle.std.specs.Prelude.{◌≡◌, IfOk, string_bytes};
-ghost use Rattle.studio_rules.specs.Lines.{line};
-ghost use Rattle.studio_rules.specs.RankWords.{rank_why_word, network_line};
+ghost use Rattle.studio_words.specs.studio_rules.Lines.{line};
+ghost use Rattle.studio_words.specs.studio_rules.RankWords.{rank_why_word, network_line};
 
 use crate::words::why_word;
-use rank_rules::RankWhy;
 use std::alloc::{AllocError, Global};
+use studio_words::RankWhy;
 
 /// The word that is printed for a cause.
 pub fn rank_why_word(why: RankWhy) -> &'static str

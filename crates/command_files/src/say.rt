@@ -5,26 +5,25 @@
 ghost use Rattle.std.specs.Prelude.{◌≡◌, ◌≤◌, ◌<◌, ◌++◌, ◌∷◌, [], ℕ, List, IfOk, codes};
 ghost use Rattle.std.specs.Prelude.{length, MatchResult};
 ghost use Rattle.std.specs.Prelude.{string_bytes};
-ghost use Rattle.text_rules.specs.State.{OutputsState};
-ghost use Rattle.tree_text_rules.specs.Line.{Token};
+ghost use Rattle.pns_text.specs.text_rules.State.{OutputsState};
+ghost use Rattle.tree_reading.specs.tree_text_rules.Line.{Token};
 ghost use Rattle.tree_text.specs.Prints.{Prints};
-ghost use Rattle.studio_rules.specs.Lines.{line, text_of};
-ghost use Rattle.studio_rules.specs.Seconds.{AreSeconds};
-ghost use Rattle.studio_rules.specs.Printed.{OneAnswer};
-ghost use Rattle.studio_rules.specs.Ending.{Ends, Tells, Only, OrMemory, IsOneOf};
-ghost use Rattle.studio_rules.specs.Ending.{IsAnswer};
-ghost use Rattle.studio_rules.specs.Ending.{IsUnfinished, IsRefusal};
-ghost use Rattle.studio_rules.specs.declared.status.Status.TheVariants.{Done, Past};
-ghost use Rattle.studio_rules.specs.declared.status.Status.TheVariants.{Spent};
-ghost use Rattle.studio_rules.specs.declared.status.Status.TheVariants.{Memory};
+ghost use Rattle.studio_words.specs.studio_rules.Lines.{line, text_of};
+ghost use Rattle.studio_words.specs.studio_rules.Seconds.{AreSeconds};
+ghost use Rattle.studio_words.specs.studio_rules.Printed.{OneAnswer};
+ghost use Rattle.studio_words.specs.studio_rules.Ending.{Ends, Tells, Only, OrMemory, IsOneOf};
+ghost use Rattle.studio_words.specs.studio_rules.Ending.{IsAnswer};
+ghost use Rattle.studio_words.specs.studio_rules.Ending.{IsUnfinished, IsRefusal};
+ghost use Rattle.studio_words.specs.studio_rules.declared.status.Status.TheVariants.{Done, Past};
+ghost use Rattle.studio_words.specs.studio_rules.declared.status.Status.TheVariants.{Spent};
+ghost use Rattle.studio_words.specs.studio_rules.declared.status.Status.TheVariants.{Memory};
 
 use crate::line::line_of;
 use crate::outputs::{put_answer, put_error};
-use pns_io::{Outputs, Sink};
+use pns_text::line::place_of;
 use std::alloc::{AllocError, Global};
-use studio_rules::Status;
-use text_lines::line::place_of;
-use tree_text::PrintFault;
+use studio_words::Status;
+use tree_text::{Outputs, PrintFault, Sink};
 
 /// Puts one line, which has its line feed, and gives the status.
 pub fn say<K: Sink, E: Sink>(out: &mut Outputs<K, E>, bytes: &[u8], status: Status) -> Status

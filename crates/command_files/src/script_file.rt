@@ -1,23 +1,21 @@
 //! A script file: it is read, judged and applied to a problem.
 ghost use Rattle.std.specs.Prelude.{◌≡◌, ◌≤◌, ℕ, List, IfOk, IfErr, OnOk, length, string_bytes};
-ghost use Rattle.studio_rules.specs.Lines.{line};
-ghost use Rattle.studio_rules.specs.Reading.{AreHeld};
-ghost use Rattle.studio_rules.specs.Script.{IsEdited, ScriptFaults, edit_fault_line};
-ghost use Rattle.studio_rules.specs.Script.{edit_kind_word};
+ghost use Rattle.studio_words.specs.studio_rules.Lines.{line};
+ghost use Rattle.studio_words.specs.studio_rules.Reading.{AreHeld};
+ghost use Rattle.studio_words.specs.studio_rules.Script.{IsEdited, ScriptFaults, edit_fault_line};
+ghost use Rattle.studio_words.specs.studio_rules.Script.{edit_kind_word};
 ghost use Rattle.command_files.specs.Script.{TellsEdits};
-ghost use Rattle.studio_rules.specs.Ending.{Ends, Says, Only, OrMemory};
-ghost use Rattle.studio_rules.specs.Keeps.{Keeps};
-ghost use Rattle.studio_rules.specs.declared.status.Status.TheVariants.{BadEdit};
+ghost use Rattle.studio_words.specs.studio_rules.Ending.{Ends, Says, Only, OrMemory};
+ghost use Rattle.studio_words.specs.studio_rules.Keeps.{Keeps};
+ghost use Rattle.studio_words.specs.studio_rules.declared.status.Status.TheVariants.{BadEdit};
 
 use crate::file::bytes_of;
-use edit_scripts::{EditFault, EditKind, Script, read_script};
 use crate::say::{say_memory, tell};
-use studio_words::{Format, Source, fault};
-use pns_edits::apply;
-use pns_io::{Outputs, Shelf, Sink};
-use pns_problem::Problem;
+use pns_edits::{EditFault, EditKind, Script, apply, read_script};
+use pns_text::Problem;
 use std::alloc::{AllocError, Global};
-use studio_rules::Status;
+use studio_words::{Format, Source, Status, fault};
+use tree_text::{Outputs, Shelf, Sink};
 
 /// The most bytes of a script file.
 const SCRIPT_LIMIT: u64 = 4_194_304;

@@ -1,8 +1,8 @@
 //! The numbers of the statuses.
 ghost use Rattle.std.specs.Prelude.{◌≡◌};
-ghost use Rattle.studio_rules.specs.Code.{code_of};
+ghost use Rattle.studio_words.specs.studio_rules.Code.{code_of};
 
-use studio_rules::Status;
+use studio_words::Status;
 
 /// The number with which the program ends. It is never 15 or 20.
 pub fn code_of(status: Status) -> u8

@@ -1,28 +1,25 @@
 //! A tree file: it is read and judged by its grammar.
 ghost use Rattle.std.specs.Prelude.{◌≡◌, ◌<◌, ◌^◌, ℕ, List, IfOk, IfErr, OnOk, length};
 ghost use Rattle.std.specs.Prelude.{string_bytes};
-ghost use Rattle.tree_rules.specs.Known.{KnowsClaim, KnowsTree};
-ghost use Rattle.branch_tree.specs.View.{claim_of};
+ghost use Rattle.tree_reading.specs.tree_rules.Known.{KnowsClaim, KnowsTree};
+ghost use Rattle.tree_reading.specs.branch_tree.View.{claim_of};
 ghost use Rattle.tree_reading.specs.Said.{said_by};
-ghost use Rattle.studio_rules.specs.Lines.{line};
-ghost use Rattle.studio_rules.specs.Reading.{AreHeld};
-ghost use Rattle.studio_rules.specs.HeadedFile.{GivesHeaded, HeadedFaults};
-ghost use Rattle.studio_rules.specs.TreeFile.{GivesTree, TreeFaults, tree_fault_line};
-ghost use Rattle.studio_rules.specs.TreeFile.{tree_kind_word};
-ghost use Rattle.studio_rules.specs.Ending.{Ends, Says, Only, OrMemory};
-ghost use Rattle.studio_rules.specs.Keeps.{Keeps};
-ghost use Rattle.studio_rules.specs.declared.status.Status.TheVariants.{BadTree};
+ghost use Rattle.studio_words.specs.studio_rules.Lines.{line};
+ghost use Rattle.studio_words.specs.studio_rules.Reading.{AreHeld};
+ghost use Rattle.studio_words.specs.studio_rules.HeadedFile.{GivesHeaded, HeadedFaults};
+ghost use Rattle.studio_words.specs.studio_rules.TreeFile.{GivesTree, TreeFaults, tree_fault_line};
+ghost use Rattle.studio_words.specs.studio_rules.TreeFile.{tree_kind_word};
+ghost use Rattle.studio_words.specs.studio_rules.Ending.{Ends, Says, Only, OrMemory};
+ghost use Rattle.studio_words.specs.studio_rules.Keeps.{Keeps};
+ghost use Rattle.studio_words.specs.studio_rules.declared.status.Status.TheVariants.{BadTree};
 
 use crate::file::bytes_of;
-use branch_tree::{Claim, Tree};
 use crate::say::{say_memory, tell};
-use studio_words::{Format, Source, fault};
-use pns_io::{Outputs, Shelf, Sink};
-use pns_problem::Problem;
+use pns_text::Problem;
 use std::alloc::{AllocError, Global};
-use studio_rules::Status;
-use tree_reading::{Headed, TreeFault, read_headed, read_tree};
-use tree_text_rules::TreeKind;
+use studio_words::{Format, Source, Status, fault};
+use tree_reading::{Claim, Headed, Tree, TreeFault, TreeKind, read_headed, read_tree};
+use tree_text::{Outputs, Shelf, Sink};
 
 /// The most bytes of a tree file.
 const TREE_LIMIT: u64 = 268_435_456;

@@ -1,17 +1,17 @@
 //! The words of causes, and the lines of what is refused.
 ghost use Rattle.std.specs.Prelude.{◌≡◌, IfOk, string_bytes};
-ghost use Rattle.studio_rules.specs.Lines.{line};
-ghost use Rattle.studio_rules.specs.Ending.{Ends, Only, OrMemory};
-ghost use Rattle.studio_rules.specs.declared.status.Status.TheVariants.{Refused, BadClaim};
-ghost use Rattle.studio_rules.specs.RefusalWords.{why_word, node_line, line_word, head_line};
+ghost use Rattle.studio_words.specs.studio_rules.Lines.{line};
+ghost use Rattle.studio_words.specs.studio_rules.Ending.{Ends, Only, OrMemory};
+ghost use Rattle.studio_words.specs.studio_rules.declared.status.Status.TheVariants.{Refused};
+ghost use Rattle.studio_words.specs.studio_rules.declared.status.Status.TheVariants.{BadClaim};
+ghost use Rattle.studio_words.specs.studio_rules.RefusalWords.{why_word, node_line, line_word};
+ghost use Rattle.studio_words.specs.studio_rules.RefusalWords.{head_line};
 
 use crate::say::{say, say_memory, tell};
-use tree_rules::LineWhy;
-use studio_words::refused;
-use pns_io::{Outputs, Sink};
 use std::alloc::{AllocError, Global};
-use studio_rules::Status;
-use tree_rules::Why;
+use studio_words::{Status, refused};
+use tree_reading::{LineWhy, Why};
+use tree_text::{Outputs, Sink};
 
 /// The word for a cause.
 pub fn why_word(why: Why) -> &'static str

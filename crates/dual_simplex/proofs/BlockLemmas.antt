@@ -6,7 +6,7 @@ use Rattle.std.proofs.lemmas.List.{drop-take, take-append-le}
 use Rattle.std.proofs.lemmas.List.Elements.{All-take, All-drop, All-append}
 use Rattle.std.proofs.lemmas.Slice.{take-put_mid_below, drop-put_mid}
 use borrow.Rule.Slice.PartMut.{put_mid}
-use Rattle.integer_laws.specs.Range.{InRange, AllInRange}
+use Rattle.flow_program.specs.integer_laws.Range.{InRange, AllInRange}
 use Rattle.dual_simplex.specs.Rows.{row_at}
 
 -- a row ends before the next begins

@@ -4,10 +4,10 @@ use Rattle.std.proofs.Common.{[], ◌∷◌, ◌++◌, sym, ap, ◌∙◌, subst
 use Rattle.std.specs.Prelude.{unsigned_abs, Option, Some, None, IfSome, IfNone}
 use Rattle.std.specs.List.{range_with_len}
 use Rattle.std.proofs.lemmas.Int.{ints}
-use Rattle.integer_laws.specs.Lowest.{IsLowest}
-use Rattle.integer_laws.specs.Range.{InRange}
-use Rattle.flow_rules.specs.LinearProgram.{LinearProgram}
-use Rattle.flow_rules.specs.ReadFlows.{IsLcm, Formed, Lcm, lcms, sizes, rounds}
+use Rattle.flow_program.specs.integer_laws.Lowest.{IsLowest}
+use Rattle.flow_program.specs.integer_laws.Range.{InRange}
+use Rattle.flow_program.specs.flow_rules.LinearProgram.{LinearProgram}
+use Rattle.flow_program.specs.flow_rules.ReadFlows.{IsLcm, Formed, Lcm, lcms, sizes, rounds}
 use Rattle.dual_simplex.specs.Rows.{Rows, table, basis}
 use Rattle.dual_simplex.specs.Choice.{columns_of}
 use Rattle.dual_simplex.specs.Reading.{Reading, IsFormedTo, IsFirstOut, formed_of, second_round}

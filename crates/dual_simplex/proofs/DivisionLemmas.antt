@@ -5,10 +5,10 @@ use Rattle.std.proofs.Common.{length, get_or, ap, ◌∙◌, subst, arith}
 use Rattle.std.specs.Prelude.{unsigned_abs, int_div}
 use Rattle.std.specs.Int.{IsGcd, ◌∣◌}
 use Rattle.std.proofs.lemmas.Nat.Gcd.{IsGcd-swap}
-use Rattle.integer_laws.proofs.LowestTerms.{gcd_positive}
-use Rattle.integer_laws.specs.Range.{InRange}
-use Rattle.integer_laws.specs.Reduced.{DividesAll, IsRowGcd, IsReduced}
-use Rattle.exact_numbers.proofs.Division.{IsRowGcd-more, reduced_from_quotients}
+use Rattle.flow_program.proofs.integer_laws.Cited.{gcd_positive}
+use Rattle.flow_program.specs.integer_laws.Range.{InRange}
+use Rattle.flow_program.specs.integer_laws.Reduced.{DividesAll, IsRowGcd, IsReduced}
+use Rattle.flow_program.proofs.exact_numbers.Cited.{IsRowGcd-more, reduced_from_quotients}
 
 -- the greatest common divisor of the first number and the i after it
 pub record IsSoFar (first : ℤ) (row : List ℤ) (i : ℕ) (common : ℤ) : Type 0 where

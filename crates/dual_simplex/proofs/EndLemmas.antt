@@ -1,20 +1,20 @@
 -- What the reading of multipliers needs of the last basis.
 use Rattle.std.proofs.Common.{◌≡◌, ◌<◌, ◌≤◌, ◌++◌, ℕ, arith, subst, sym, ◌∙◌, List, length, take}
 use Rattle.std.proofs.lemmas.List.{take-append-le, take_all, length-take-le}
-use Rattle.integer_laws.specs.Range.{InRange, AllInRange}
-use Rattle.flow_rules.specs.declared.place.Column.{Column}
-use Rattle.flow_rules.specs.Program.{Program}
-use Rattle.flow_rules.specs.LinearProgram.{linear_of}
-use Rattle.flow_rules.specs.Multipliers.{AreMultipliers, AreRefuting}
+use Rattle.flow_program.specs.integer_laws.Range.{InRange, AllInRange}
+use Rattle.flow_program.specs.flow_rules.declared.place.Column.{Column}
+use Rattle.flow_program.specs.flow_rules.Program.{Program}
+use Rattle.flow_program.specs.flow_rules.LinearProgram.{linear_of}
+use Rattle.flow_program.specs.flow_rules.Multipliers.{AreMultipliers, AreRefuting}
 use Rattle.std.proofs.lemmas.Int.{ints}
-use Rattle.flow_rules.specs.ReadFlows.{AreRead}
+use Rattle.flow_program.specs.flow_rules.ReadFlows.{AreRead}
 use Rattle.dual_simplex.specs.Reading.{IsOwnPositive}
-use Rattle.flow_rules.specs.Named.{column_named, nonbasic_named}
+use Rattle.flow_program.specs.flow_rules.Named.{column_named, nonbasic_named}
 use Rattle.dual_simplex.specs.Bench.{IsLeastOf, IsNoneOf, AreFlowsOf}
 use Rattle.std.specs.Prelude.{ℤ, pos, ◌<ℤ◌, ◌≤ℤ◌}
-use Rattle.flow_rules.specs.LinearProgram.{LinearProgram}
-use Rattle.flow_rules.specs.Columns.{scale_at}
-use Rattle.path_laws.proofs.PathLawLemmas.{basis_is_of_columns}
+use Rattle.flow_program.specs.flow_rules.LinearProgram.{LinearProgram}
+use Rattle.flow_program.specs.flow_rules.Columns.{scale_at}
+use Rattle.path_laws.proofs.Cited.{basis_is_of_columns}
 use Rattle.dual_simplex.specs.Rows.{Rows, table, basis}
 use Rattle.dual_simplex.specs.Choice.{columns_of, scale_of}
 use Rattle.dual_simplex.specs.Dual.{IsNotNegative}

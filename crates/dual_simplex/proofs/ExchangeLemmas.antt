@@ -8,19 +8,18 @@ use Rattle.std.proofs.lemmas.Bool.Decides.{eqb_tells}
 use Rattle.std.proofs.lemmas.List.{length-take-le}
 use Rattle.std.proofs.Math.ListN.{length-drop}
 use Rattle.std.proofs.Math.Nat.{mul-le-mul}
-use Rattle.integer_laws.proofs.Order.{mul_pos, pos_of-mul}
-use Rattle.integer_laws.proofs.Ring.{V, ◌⊖◌, ◌⊗◌, ring}
-use Rattle.integer_laws.specs.declared.which.Which.{Which}
-use Rattle.integer_laws.specs.Combined as rows
-use Rattle.integer_laws.specs.Lowest.{IsLowest}
-use Rattle.exact_numbers.proofs.LowestLemmas.{lowest_same}
-use Rattle.flow_rules.specs.LinearProgram.{LinearProgram}
-use Rattle.flow_rules.specs.Columns.{Has, exchanged, scale_at}
-use Rattle.flow_rules.specs.Tableau.{IsTableau, IsPrimitive}
-use Rattle.flow_rules.specs.Pivots.{HasPivot, IsCombined}
-use Rattle.flow_rules.specs.Path.{Fits, IsPastEntry}
+use Rattle.flow_program.proofs.integer_laws.Cited.{mul_pos, pos_of-mul, V, ◌⊖◌, ◌⊗◌, ring}
+use Rattle.flow_program.specs.integer_laws.declared.which.Which.{Which}
+use Rattle.flow_program.specs.integer_laws.Combined as rows
+use Rattle.flow_program.specs.integer_laws.Lowest.{IsLowest}
+use Rattle.flow_program.proofs.exact_numbers.Cited.{lowest_same}
+use Rattle.flow_program.specs.flow_rules.LinearProgram.{LinearProgram}
+use Rattle.flow_program.specs.flow_rules.Columns.{Has, exchanged, scale_at}
+use Rattle.flow_program.specs.flow_rules.Tableau.{IsTableau, IsPrimitive}
+use Rattle.flow_program.specs.flow_rules.Pivots.{HasPivot, IsCombined}
+use Rattle.flow_program.specs.flow_rules.Path.{Fits, IsPastEntry}
 use Rattle.path_laws.specs.Phases.{IsExchange}
-use Rattle.path_laws.proofs.RowLemmas.{rows_are_combined, rows_are_primitive}
+use Rattle.path_laws.proofs.Cited.{rows_are_combined, rows_are_primitive}
 use Rattle.dual_simplex.specs.Rows.{Rows, width, row_of, table, basis, AreRows}
 use Rattle.dual_simplex.specs.Exchange.{IsStepped, IsPastStep, IsExchanged}
 use Rattle.dual_simplex.specs.Choice.{IsOfSize}

@@ -3,19 +3,17 @@ use Rattle.std.proofs.Common.{◌≡◌, ℕ, suc, ◌+◌, ◌<◌, inl, inr, B
 use Rattle.std.proofs.Common.{subst, List, length, get_or, None, Some}
 use Rattle.std.specs.Prelude.{ℤ, pos, ◌<ℤ◌}
 use Rattle.std.proofs.lemmas.Bool.{cases_eq}
-use Rattle.integer_laws.specs.declared.which.Which.{Which}
-use Rattle.flow_rules.specs.Program.{Program, IsProgram}
-use Rattle.flow_rules.specs.LinearProgram.{LinearProgram, linear_of}
-use Rattle.flow_rules.specs.Columns.{scale_at, s_at}
-use Rattle.flow_rules.specs.Tableau.{IsTableau}
-use Rattle.flow_rules.specs.Pivots.{IsFirstKind, first_kind}
-use Rattle.flow_rules.specs.Path.{Fits, IsPastEntry, Reaches}
-use Rattle.flow_rules.specs.Places.{IsPastPivot, at_first}
+use Rattle.flow_program.specs.integer_laws.declared.which.Which.{Which}
+use Rattle.flow_program.specs.flow_rules.Program.{Program, IsProgram}
+use Rattle.flow_program.specs.flow_rules.LinearProgram.{LinearProgram, linear_of}
+use Rattle.flow_program.specs.flow_rules.Columns.{scale_at, s_at}
+use Rattle.flow_program.specs.flow_rules.Tableau.{IsTableau}
+use Rattle.flow_program.specs.flow_rules.Pivots.{IsFirstKind, first_kind}
+use Rattle.flow_program.specs.flow_rules.Path.{Fits, IsPastEntry, Reaches}
+use Rattle.flow_program.specs.flow_rules.Places.{IsPastPivot, at_first}
 use Rattle.path_laws.specs.Phases.{IsFirstPhase, IsExchange}
-use Rattle.path_laws.proofs.PathLawLemmas.{basis_is_of_columns, first_phase_pivots}
-use Rattle.path_laws.proofs.PathLawLemmas.{first_phase_goes_on, first_phase_ends}
-use Rattle.path_laws.proofs.PathLawLemmas.{exchange_goes_on}
-use Rattle.path_laws.proofs.RangeProgramLemmas.{program_fits}
+use Rattle.path_laws.proofs.Cited.{basis_is_of_columns, first_phase_pivots, first_phase_goes_on}
+use Rattle.path_laws.proofs.Cited.{first_phase_ends, exchange_goes_on, program_fits}
 use Rattle.dual_simplex.specs.Rows.{Rows, width, row_of, table, basis, AreRows}
 use Rattle.dual_simplex.specs.Exchange.{IsExchanged, IsPastRow, IsSameSize}
 use Rattle.dual_simplex.specs.Choice.{IsOfSize, scale_of}

@@ -1,13 +1,13 @@
 -- The laws of the flows that a bench keeps.
 use Rattle.std.proofs.Common.{◌≡◌, ℤ, ◌*ℤ◌, Bool, true, false, not, ◌||◌, refl, sym, ap, ◌∙◌, subst}
-use Rattle.number_sets.proofs.SetLemmas.{listed-same}
-use Rattle.flow_rules.specs.Net.{net_of, beside}
-use Rattle.flow_rules.specs.Program.{Program, program_of}
-use Rattle.flow_rules.specs.Relaxed.{stays, units}
-use Rattle.flow_rules.specs.LinearProgram.{linear_of}
-use Rattle.flow_rules.specs.ReadFlows.{AreRead}
-use Rattle.path_laws.proofs.EndLemmas as law
-use Rattle.path_laws.proofs.SplitLemmas as split
+use Rattle.flow_program.proofs.number_sets.Cited.{listed-same}
+use Rattle.flow_program.specs.flow_rules.Net.{net_of, beside}
+use Rattle.flow_program.specs.flow_rules.Program.{Program, program_of}
+use Rattle.flow_program.specs.flow_rules.Relaxed.{stays, units}
+use Rattle.flow_program.specs.flow_rules.LinearProgram.{linear_of}
+use Rattle.flow_program.specs.flow_rules.ReadFlows.{AreRead}
+use Rattle.path_laws.proofs.Cited as law
+use Rattle.path_laws.proofs.Cited as split
 use Rattle.dual_simplex.specs.Rows.{table, basis}
 use Rattle.dual_simplex.specs.Bench.{Bench, AreFlowsOf}
 use Rattle.dual_simplex.specs.FlowLaws.{FlowsAreRelaxed, FlowsAreLeast, UnitsAreInside}

@@ -1,15 +1,15 @@
 -- The laws of the ends of a path, for what a bench keeps.
 use Rattle.std.proofs.Common.{◌≡◌, subst}
-use Rattle.pns_rules.specs.Nodes.{Node}
-use Rattle.flow_rules.specs.Net.{Net, net_of}
-use Rattle.flow_rules.specs.Program.{Program, program_of}
+use Rattle.flow_program.specs.pns_rules.Nodes.{Node}
+use Rattle.flow_program.specs.flow_rules.Net.{Net, net_of}
+use Rattle.flow_program.specs.flow_rules.Program.{Program, program_of}
 use Rattle.path_laws.specs.Ends as ends
-use Rattle.path_laws.proofs.EndLemmas as law
+use Rattle.path_laws.proofs.Cited as law
 use Rattle.dual_simplex.specs.Rows.{table, basis}
 use Rattle.dual_simplex.specs.Bench.{Bench, IsLeastOf, IsNoneOf}
 use Rattle.dual_simplex.specs.Laws.{ScaleIsPositive, BoundIsReached, BoundIsLeast, NoneIsRefuted}
 use Rattle.dual_simplex.specs.Laws.{FeasibleIsLast, RefutingIsLast, PastIsLast}
-use Rattle.path_laws.proofs.PathLawLemmas as path
+use Rattle.path_laws.proofs.Cited as path
 
 pub ends_least : (net : Net) (n : Node) (q : Program) (b : Bench) → q ≡ program_of net n
     → IsLeastOf q b → ends.EndsLeast net n (basis b.rows) (table b.rows) b.d b.ys

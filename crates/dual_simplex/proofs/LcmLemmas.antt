@@ -3,17 +3,16 @@ use Rattle.std.proofs.Common.{◌≡◌, ℕ, ◌*◌, ◌<◌, ◌^◌, ℤ, po
 use Rattle.std.proofs.Common.{◌/◌}
 use Rattle.std.specs.Prelude.{unsigned_abs, Option, Some, None, IfSome, IfNone}
 use Rattle.std.specs.Option.{SomeIff}
-use Rattle.integer_laws.proofs.Order.{mul_pos}
+use Rattle.flow_program.proofs.integer_laws.Cited.{mul_pos, dvd_of_coprime}
 use Rattle.std.specs.Int.{IsGcd, ◌∣◌}
 use Rattle.std.proofs.lemmas.Int.{ints, unsigned_abs-mul}
 use Rattle.std.proofs.lemmas.Nat.Gcd.{IsGcd-swap, dvd_antisymm}
 use Rattle.std.proofs.Math.Nat.{dvd-mul_right, div-mul_cancel, mul-dvd-mul_left}
 use Rattle.std.proofs.Math.Nat.{dvd_of_mul-dvd-mul_left}
-use Rattle.integer_laws.proofs.Coprime.{dvd_of_coprime}
-use Rattle.integer_laws.specs.Lowest.{IsLowest}
-use Rattle.integer_laws.specs.Range.{InRange}
-use Rattle.exact_numbers.proofs.LowestLemmas.{lowest_coprime, common_positive}
-use Rattle.flow_rules.specs.ReadFlows.{IsLcm}
+use Rattle.flow_program.specs.integer_laws.Lowest.{IsLowest}
+use Rattle.flow_program.specs.integer_laws.Range.{InRange}
+use Rattle.flow_program.proofs.exact_numbers.Cited.{lowest_coprime, common_positive}
+use Rattle.flow_program.specs.flow_rules.ReadFlows.{IsLcm}
 
 -- g * p and g * q with p and q coprime have the least common multiple g * p * q
 lcm_parts : (g p q : ℕ) → 0 < g → IsGcd p q 1 → IsLcm (g * p) (g * q) (g * p * q)

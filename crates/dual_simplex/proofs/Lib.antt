@@ -27,3 +27,10 @@ pub mod PastLemmas
 pub mod FlowLawLemmas
 pub mod NameLemmas
 pub mod RoomLemmas
+pub use Rattle.flow_program.proofs.number_sets as number_sets
+pub use Rattle.flow_program.proofs.integer_laws as integer_laws
+pub use Rattle.flow_program.proofs.pns_rules as pns_rules
+pub use Rattle.flow_program.proofs.exact_numbers as exact_numbers
+pub use Rattle.flow_program.proofs.pns_problem as pns_problem
+pub use Rattle.flow_program.proofs as flow_program
+pub use Rattle.path_laws.proofs as path_laws

@@ -4,13 +4,13 @@ use Rattle.std.proofs.Common.{subst, List, [], ◌∷◌, map, length, nat_lt, n
 use Rattle.std.specs.Prelude.{Some, None}
 use Rattle.std.specs.List.{filter, range_with_len}
 use Rattle.std.proofs.lemmas.Bool.{ltb-true, ltb-false}
-use Rattle.problem_rules.specs.Each.{Each}
-use Rattle.flow_rules.specs.Program.{Program}
-use Rattle.flow_rules.specs.declared.place.Column.TheVariants.{Right, Scale}
-use Rattle.flow_rules.specs.LinearProgram.{linear_of}
-use Rattle.flow_rules.specs.Columns.{columns, scale_at}
-use Rattle.path_laws.proofs.PlaceLemmas.{has_at}
-use Rattle.flow_rules.specs.Named.{column_named}
+use Rattle.flow_program.specs.problem_rules.Each.{Each}
+use Rattle.flow_program.specs.flow_rules.Program.{Program}
+use Rattle.flow_program.specs.flow_rules.declared.place.Column.TheVariants.{Right, Scale}
+use Rattle.flow_program.specs.flow_rules.LinearProgram.{linear_of}
+use Rattle.flow_program.specs.flow_rules.Columns.{columns, scale_at}
+use Rattle.path_laws.proofs.Cited.{has_at}
+use Rattle.flow_program.specs.flow_rules.Named.{column_named}
 use Rattle.dual_simplex.specs.ProgramNames.{IsColumnOf, IsRowOf, IsPlaceOf, NonbasicAreOfProgram}
 use Rattle.dual_simplex.specs.ProgramNames.{ColumnsAreOfProgram, RowIsOfProgram}
 use Rattle.dual_simplex.specs.ProgramNames.{EntriesAreOfProgram, FlowsAreOfProgram}

@@ -8,9 +8,9 @@ use Rattle.std.proofs.Common.{inl, inr}
 use native.Mathlib.Numerals.{unary_clauses}
 use Rattle.std.proofs.lemmas.List.{drop_more, get_or-set_same, get_or-set_other, length-set}
 use Rattle.std.proofs.lemmas.List.Elements.{filter-append}
-use Rattle.number_sets.specs.Sets.{IsSet}
-use Rattle.number_sets.proofs.SetLemmas.{length_below}
-use Rattle.flow_program.proofs.WalkLemmas.{IsNext}
+use Rattle.flow_program.specs.number_sets.Sets.{IsSet}
+use Rattle.flow_program.proofs.number_sets.Cited.{length_below}
+use Rattle.flow_program.proofs.Cited.{IsNext}
 
 -- `left` are the numbers of the set from place k on; the table has those before
 pub record IsFilled (n : ℕ) (numbers table left : List ℕ) (k : ℕ) : Type 0 where

@@ -2,21 +2,22 @@
 use Rattle.std.proofs.Common.{◌≡◌, ℕ, zero, suc, ◌+◌, ◌<◌, ◌≤◌, Bool, true, false, cond, arith}
 use Rattle.std.proofs.Common.{refl, sym, ap, subst, List, [], ◌∷◌, ◌++◌, map, get_or, ℤ}
 use Rattle.std.specs.List.{range_with_len}
-use Rattle.pns_rules.specs.Nodes.{Node}
-use Rattle.flow_rules.specs.declared.place.Column.{Column}
-use Rattle.flow_rules.specs.declared.place.Place.{Place}
-use Rattle.flow_rules.specs.declared.place.Place.TheVariants as places
-use Rattle.flow_rules.specs.Net.{Net}
-use Rattle.flow_rules.specs.Program.{Program, program_of}
-use Rattle.flow_rules.specs.Steps.{IsFirstPast}
-use Rattle.flow_rules.specs.LinearProgram.{LinearProgram}
-use Rattle.flow_rules.specs.Columns.{Basis}
-use Rattle.flow_rules.specs.ReadFlows.{Formed, FlowStep, Lcm, lcms, sizes, rounds, formed}
-use Rattle.flow_rules.specs.ReadFlows.{IsPastFlow}
-use Rattle.flow_rules.specs.Places as path
+use Rattle.flow_program.specs.pns_rules.Nodes.{Node}
+use Rattle.flow_program.specs.flow_rules.declared.place.Column.{Column}
+use Rattle.flow_program.specs.flow_rules.declared.place.Place.{Place}
+use Rattle.flow_program.specs.flow_rules.declared.place.Place.TheVariants as places
+use Rattle.flow_program.specs.flow_rules.Net.{Net}
+use Rattle.flow_program.specs.flow_rules.Program.{Program, program_of}
+use Rattle.flow_program.specs.flow_rules.Steps.{IsFirstPast}
+use Rattle.flow_program.specs.flow_rules.LinearProgram.{LinearProgram}
+use Rattle.flow_program.specs.flow_rules.Columns.{Basis}
+use Rattle.flow_program.specs.flow_rules.ReadFlows.{Formed, FlowStep, Lcm, lcms, sizes, rounds}
+use Rattle.flow_program.specs.flow_rules.ReadFlows.{formed}
+use Rattle.flow_program.specs.flow_rules.ReadFlows.{IsPastFlow}
+use Rattle.flow_program.specs.flow_rules.Places as path
 use Rattle.dual_simplex.specs.Rows.{table, basis}
 use Rattle.dual_simplex.specs.Bench.{Bench, IsLeastOf, IsNoneOf, AreFlowsOf}
-use Rattle.flow_rules.specs.Named.{place_named}
+use Rattle.flow_program.specs.flow_rules.Named.{place_named}
 use Rattle.dual_simplex.specs.PastPlace.{IsPastOf, IsPastFlowOf}
 use Rattle.dual_simplex.specs.PastLaws.{IsPastHere, EntryIsPast, FlowIsPast, BoundIsPast}
 use Rattle.dual_simplex.specs.PastLaws.{RefutationIsPast, CostIsPast, BalanceIsPast}

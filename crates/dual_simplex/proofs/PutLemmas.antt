@@ -5,11 +5,11 @@ use Rattle.std.proofs.Common.{subst, arith}
 use Rattle.std.proofs.lemmas.List.{get_or_default}
 use Rattle.std.proofs.lemmas.List.Edits.{fill_by_more}
 use Rattle.std.proofs.lemmas.List.FromFn.{fill_by_all}
-use Rattle.integer_laws.specs.Range.{InRange, AllInRange}
-use Rattle.integer_laws.specs.Reduced.{IsReduced}
-use Rattle.flow_rules.specs.LinearProgram.{LinearProgram}
-use Rattle.flow_rules.specs.Columns.{t_at, w_at, scale_at}
-use Rattle.flow_rules.specs.Multipliers.{multipliers}
+use Rattle.flow_program.specs.integer_laws.Range.{InRange, AllInRange}
+use Rattle.flow_program.specs.integer_laws.Reduced.{IsReduced}
+use Rattle.flow_program.specs.flow_rules.LinearProgram.{LinearProgram}
+use Rattle.flow_program.specs.flow_rules.Columns.{t_at, w_at, scale_at}
+use Rattle.flow_program.specs.flow_rules.Multipliers.{multipliers}
 use Rattle.dual_simplex.specs.Rows.{Rows, table}
 use Rattle.dual_simplex.specs.Choice.{IsOfSize, scale_of}
 use Rattle.dual_simplex.specs.Dual.{multiplier_of}

@@ -3,9 +3,9 @@ use Rattle.std.proofs.Common.{◌≡◌, ℕ, zero, suc, ◌+◌, ◌*◌, ◌/�
 use Rattle.std.specs.Prelude.{ℤ, pos, negsuc, ◌+ℤ◌, ◌*ℤ◌, ◌<ℤ◌, ◌≤ℤ◌, unsigned_abs}
 use Rattle.std.proofs.lemmas.Int.{ints}
 use Rattle.std.proofs.Math.Nat.{div-le_of_le-mul, mul-le-mul}
-use Rattle.integer_laws.proofs.Ring.{V, ◌⊕◌, ◌⊗◌, read_equal, read_le}
-use Rattle.flow_rules.specs.Rank.{digit, power, rank, IsWithin}
-use Rattle.path_laws.proofs.RankLemmas.{number_below}
+use Rattle.flow_program.proofs.integer_laws.Cited.{V, ◌⊕◌, ◌⊗◌, read_equal, read_le}
+use Rattle.flow_program.specs.flow_rules.Rank.{digit, power, rank, IsWithin}
+use Rattle.path_laws.proofs.Cited.{number_below}
 
 abs_of : (z : ℤ) → pos 0 ≤ℤ z → pos (unsigned_abs z) ≡ z
 abs_of (pos n) h = refl

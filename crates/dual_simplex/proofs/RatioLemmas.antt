@@ -3,11 +3,10 @@ use Rattle.std.proofs.Common.{◌≡◌, ℕ, suc, true, ℤ, pos, ◌*ℤ◌, �
 use Rattle.std.specs.Ordering.{int_cmp}
 use Rattle.std.specs.Cmp.{int_ranked}
 use Rattle.std.specs.declared.cmp.Ordering.TheVariants.{Equal}
-use Rattle.integer_laws.proofs.Order.{mul_pos, int_cmp-mul}
-use Rattle.integer_laws.proofs.Ring.{V, ◌⊗◌, ring}
-use Rattle.integer_laws.specs.Lowest.{IsLowest}
-use Rattle.exact_numbers.proofs.LowestLemmas.{common_positive}
-use Rattle.path_laws.proofs.VectorLemmas.{gain-basic}
+use Rattle.flow_program.proofs.integer_laws.Cited.{mul_pos, int_cmp-mul, V, ◌⊗◌, ring}
+use Rattle.flow_program.specs.integer_laws.Lowest.{IsLowest}
+use Rattle.flow_program.proofs.exact_numbers.Cited.{common_positive}
+use Rattle.path_laws.proofs.Cited.{gain-basic}
 use Rattle.dual_simplex.specs.Rows.{Rows, table, basis}
 use Rattle.dual_simplex.specs.Choice.{scale_of}
 use Rattle.dual_simplex.specs.Candidates.{vector}

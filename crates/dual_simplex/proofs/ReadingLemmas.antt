@@ -5,12 +5,11 @@ use Rattle.std.specs.Prelude.{unsigned_abs, int_div}
 use Rattle.std.specs.Int.{IsGcd}
 use Rattle.std.proofs.lemmas.Int.{ints}
 use Rattle.std.proofs.lemmas.Nat.Gcd.{IsGcd-from_zero, IsGcd-from_mod, dvd-zero, dvd_refl}
-use Rattle.integer_laws.proofs.LowestTerms.{gcd_positive}
-use Rattle.integer_laws.proofs.Order.{sign_cases}
-use Rattle.integer_laws.specs.Lowest.{IsLowest}
-use Rattle.exact_numbers.proofs.Division.{quotient_exact}
-use Rattle.flow_rules.specs.LinearProgram.{LinearProgram}
-use Rattle.flow_rules.specs.ReadFlows.{IsLcm}
+use Rattle.flow_program.proofs.integer_laws.Cited.{gcd_positive, sign_cases}
+use Rattle.flow_program.specs.integer_laws.Lowest.{IsLowest}
+use Rattle.flow_program.proofs.exact_numbers.Cited.{quotient_exact}
+use Rattle.flow_program.specs.flow_rules.LinearProgram.{LinearProgram}
+use Rattle.flow_program.specs.flow_rules.ReadFlows.{IsLcm}
 use Rattle.dual_simplex.specs.Rows.{Rows, table, basis}
 use Rattle.dual_simplex.specs.Choice.{IsOfSize, columns_of}
 use Rattle.dual_simplex.specs.Reading.{Reading, IsOwnPositive}

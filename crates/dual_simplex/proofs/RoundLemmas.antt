@@ -4,9 +4,9 @@ use Rattle.std.proofs.Common.{map, get_or, refl, sym, ◌∙◌, subst, append_a
 use Rattle.std.specs.List.{range_with_len}
 use Rattle.std.proofs.lemmas.Bool.Decides.{eqb_tells}
 use Rattle.std.proofs.lemmas.List.{append-nil}
-use Rattle.integer_laws.specs.Range.{InRange}
-use Rattle.flow_rules.specs.Steps.{AreInRange, IsFirstPast}
-use Rattle.flow_rules.specs.ReadFlows.{Formed, sizes}
+use Rattle.flow_program.specs.integer_laws.Range.{InRange}
+use Rattle.flow_program.specs.flow_rules.Steps.{AreInRange, IsFirstPast}
+use Rattle.flow_program.specs.flow_rules.ReadFlows.{Formed, sizes}
 use Rattle.dual_simplex.specs.Reading.{IsFormedTo, IsFirstOut, size_steps}
 
 pub in_range_both : (number : Formed → ℤ) (xs ys : List Formed) → AreInRange (map number xs)

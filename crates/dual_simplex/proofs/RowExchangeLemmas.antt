@@ -3,7 +3,7 @@ use Rattle.std.proofs.Common.{◌≡◌, ◌≢◌, ◌<◌, ◌≤◌, ◌+◌,
 use Rattle.std.proofs.Common.{inr, cond, ℕ, ℤ, Bool, true, false, List, length, get_or, set, nat_eq}
 use Rattle.std.proofs.lemmas.Bool.Decides.{eqb_tells}
 use Rattle.std.proofs.lemmas.List.{get_or-set_same, get_or-set_other, length-set}
-use Rattle.flow_rules.specs.Columns.{exchanged}
+use Rattle.flow_program.specs.flow_rules.Columns.{exchanged}
 use Rattle.dual_simplex.specs.Rows.{Rows, width, row_at, row_of, basis}
 use Rattle.dual_simplex.specs.Exchange.{pivot_row, IsStepped, AreStepped, IsExchanged}
 

@@ -5,8 +5,8 @@ use Rattle.std.specs.Prelude.{unsigned_abs}
 use Rattle.std.specs.Int.{w128}
 use Rattle.std.proofs.lemmas.Int.{ints, unsigned_abs-mul, fits_signed_from_abs}
 use Rattle.std.proofs.Math.Nat.{mul-le-mul}
-use Rattle.number_sets.proofs.SetLemmas.{length_below}
-use Rattle.flow_rules.specs.Program.{Program, AreRanges, IsProgram}
+use Rattle.flow_program.proofs.number_sets.Cited.{length_below}
+use Rattle.flow_program.specs.flow_rules.Program.{Program, AreRanges, IsProgram}
 
 pub size_mul : (a b : ℤ) (m n : ℕ) → unsigned_abs a ≤ m → unsigned_abs b ≤ n
     → unsigned_abs (a *ℤ b) ≤ m * n

@@ -4,17 +4,17 @@ use Rattle.std.proofs.Common.{false, cond, arith, refl, sym, ap, ◌∙◌, subs
 use Rattle.std.proofs.Common.{set}
 use Rattle.std.specs.Prelude.{ℤ, pos, nat_lt, nat_eq, nat_le}
 use Rattle.std.proofs.lemmas.Bool.Decides.{eqb_tells, leb_tells}
-use Rattle.flow_rules.specs.LinearProgram.{LinearProgram}
-use Rattle.flow_rules.specs.Columns.{Has, x_at, s_at, t_at, w_at, right_at, scale_at, start}
-use Rattle.flow_rules.specs.Start.{one_at, IsStart}
-use Rattle.path_laws.proofs.StartTableauLemmas.{start_rows, x_entry, right_entry, start_exists}
-use Rattle.path_laws.proofs.StartBasisLemmas.{start-has}
+use Rattle.flow_program.specs.flow_rules.LinearProgram.{LinearProgram}
+use Rattle.flow_program.specs.flow_rules.Columns.{Has, x_at, s_at, t_at, w_at, right_at, scale_at}
+use Rattle.flow_program.specs.flow_rules.Columns.{start}
+use Rattle.flow_program.specs.flow_rules.Start.{one_at, IsStart}
+use Rattle.path_laws.proofs.Cited.{start_rows, x_entry, right_entry, start_exists, start-has}
 use Rattle.std.specs.List.{AllWithin}
 use Rattle.std.proofs.lemmas.Bool.{cases_eq}
 use Rattle.std.proofs.lemmas.List.{get_or-set_same, get_or-set_other, length-set}
 use Rattle.std.proofs.lemmas.List.Elements.{AllWithin-more_set}
 use Rattle.std.proofs.Math.Nat.{mul-le-mul}
-use Rattle.integer_laws.specs.Range.{InRange, AllInRange}
+use Rattle.flow_program.specs.integer_laws.Range.{InRange, AllInRange}
 use Rattle.dual_simplex.specs.Rows.{row_at, width_of, AreRows}
 use Rattle.dual_simplex.specs.Start.{start_at_x, start_at_right, start_entry}
 

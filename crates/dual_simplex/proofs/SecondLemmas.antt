@@ -6,21 +6,19 @@ use Rattle.std.proofs.lemmas.Int.{ints}
 use Rattle.std.proofs.lemmas.Bool.{cases_eq}
 use Rattle.std.proofs.lemmas.List.Elements.{All-take, All-drop}
 use Rattle.std.proofs.Math.ListN.{get_or-map}
-use Rattle.path_laws.proofs.BoolLemmas.{bool_cases}
-use Rattle.integer_laws.specs.declared.which.Which.{Which}
-use Rattle.integer_laws.specs.Range.{InRange, AllInRange}
-use Rattle.flow_rules.specs.LinearProgram.{LinearProgram}
-use Rattle.flow_rules.specs.Columns.{Has, columns, right_at, scale_at}
-use Rattle.flow_rules.specs.Vectors.{value_top, value_bottom}
-use Rattle.flow_rules.specs.Rank.{IsWithin}
-use Rattle.flow_rules.specs.Pivots.{IsLeaving, IsEntering, second_kind}
-use Rattle.flow_rules.specs.Path.{IsPastEntry}
-use Rattle.flow_rules.specs.Places.{at_second}
+use Rattle.path_laws.proofs.Cited.{bool_cases, basis_is_of_columns, exchange_goes_on}
+use Rattle.path_laws.proofs.Cited.{costs_are_not_negative, vectors_keep_rising}
+use Rattle.path_laws.proofs.Cited.{values_rise_by_pivots, rank_rises_too, values_are_within}
+use Rattle.flow_program.specs.integer_laws.declared.which.Which.{Which}
+use Rattle.flow_program.specs.integer_laws.Range.{InRange, AllInRange}
+use Rattle.flow_program.specs.flow_rules.LinearProgram.{LinearProgram}
+use Rattle.flow_program.specs.flow_rules.Columns.{Has, columns, right_at, scale_at}
+use Rattle.flow_program.specs.flow_rules.Vectors.{value_top, value_bottom}
+use Rattle.flow_program.specs.flow_rules.Rank.{IsWithin}
+use Rattle.flow_program.specs.flow_rules.Pivots.{IsLeaving, IsEntering, second_kind}
+use Rattle.flow_program.specs.flow_rules.Path.{IsPastEntry}
+use Rattle.flow_program.specs.flow_rules.Places.{at_second}
 use Rattle.path_laws.specs.Phases.{IsExchange}
-use Rattle.path_laws.proofs.PathLawLemmas.{basis_is_of_columns, exchange_goes_on}
-use Rattle.path_laws.proofs.PathLawLemmas.{costs_are_not_negative, vectors_keep_rising}
-use Rattle.path_laws.proofs.PathLawLemmas.{values_rise_by_pivots, rank_rises_too}
-use Rattle.path_laws.proofs.WithinLemmas.{values_are_within}
 use Rattle.dual_simplex.specs.Rows.{Rows, width, row_of, table, basis, AreRows}
 use Rattle.dual_simplex.specs.Exchange.{IsExchanged, IsPastRow, IsSameSize}
 use Rattle.dual_simplex.specs.Choice.{IsOfSize, columns_of, IsDualFeasible}

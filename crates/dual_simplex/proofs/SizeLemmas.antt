@@ -6,15 +6,16 @@ use Rattle.std.specs.Prelude.{unsigned_abs, int_div, Option}
 use Rattle.std.specs.Option.{SomeIff}
 use Rattle.std.specs.Int.{◌∣◌}
 use Rattle.std.specs.List.{range_with_len}
-use Rattle.integer_laws.specs.Lowest.{IsLowest}
-use Rattle.integer_laws.specs.Range.{InRange, AllInRange}
+use Rattle.flow_program.specs.integer_laws.Lowest.{IsLowest}
+use Rattle.flow_program.specs.integer_laws.Range.{InRange, AllInRange}
 use Rattle.std.proofs.lemmas.List.{get_or_default}
 use Rattle.std.proofs.lemmas.List.FromFn.{fill_by_all}
-use Rattle.integer_laws.proofs.Ring.{V, N, ◌⊗◌, ring}
-use Rattle.flow_rules.specs.Steps.{AreInRange}
-use Rattle.flow_rules.specs.LinearProgram.{LinearProgram}
-use Rattle.flow_rules.specs.ReadFlows.{Formed, FlowStep, Shift, Scaled, Total, sizes, rounds, size}
-use Rattle.flow_rules.specs.ReadFlows.{size_above, AreRead, IsPastFlow}
+use Rattle.flow_program.proofs.integer_laws.Cited.{V, N, ◌⊗◌, ring}
+use Rattle.flow_program.specs.flow_rules.Steps.{AreInRange}
+use Rattle.flow_program.specs.flow_rules.LinearProgram.{LinearProgram}
+use Rattle.flow_program.specs.flow_rules.ReadFlows.{Formed, FlowStep, Shift, Scaled, Total, sizes}
+use Rattle.flow_program.specs.flow_rules.ReadFlows.{rounds, size}
+use Rattle.flow_program.specs.flow_rules.ReadFlows.{size_above, AreRead, IsPastFlow}
 use Rattle.dual_simplex.specs.Rows.{Rows, table, basis}
 use Rattle.dual_simplex.specs.Choice.{columns_of}
 use Rattle.dual_simplex.specs.Reading.{Reading, IsOwnPositive, IsFormedTo, IsFirstOut, formed_of}

@@ -1,13 +1,12 @@
 -- The start of the path.
 use Rattle.std.proofs.Common.{◌≡◌, ℕ, sym, ◌∙◌, arith}
 use Rattle.std.specs.Prelude.{ℤ}
-use Rattle.flow_rules.specs.LinearProgram.{LinearProgram}
-use Rattle.flow_rules.specs.Columns.{Basis, start, s_at, t_at, w_at, x_at}
-use Rattle.flow_rules.specs.Tableau.{IsTableau}
-use Rattle.flow_rules.specs.Start.{IsStart}
+use Rattle.flow_program.specs.flow_rules.LinearProgram.{LinearProgram}
+use Rattle.flow_program.specs.flow_rules.Columns.{Basis, start, s_at, t_at, w_at, x_at}
+use Rattle.flow_program.specs.flow_rules.Tableau.{IsTableau}
+use Rattle.flow_program.specs.flow_rules.Start.{IsStart}
 use Rattle.path_laws.specs.Phases.{IsFirstPhase, IsOut}
-use Rattle.path_laws.proofs.PathLawLemmas.{start_is_first_phase}
-use Rattle.path_laws.proofs.TableauLawLemmas.{start_is_tableau}
+use Rattle.path_laws.proofs.Cited.{start_is_first_phase, start_is_tableau}
 use Rattle.dual_simplex.specs.Rows.{Rows, table, basis}
 use Rattle.dual_simplex.specs.Choice.{IsOfSize}
 use Rattle.dual_simplex.specs.Walk.{IsInFirst}

@@ -2,9 +2,9 @@
 use Rattle.std.proofs.Common.{◌≡◌, ◌≢◌, ◌<◌, ◌≤◌, ◌+◌, ◌*◌, ◌++◌, arith, sym, ap, ◌∙◌, subst, inl}
 use Rattle.std.proofs.Common.{inr, ℕ, ℤ, Bool, true, false, List, length, get_or}
 use Rattle.std.proofs.lemmas.Bool.{cases_eq}
-use Rattle.integer_laws.specs.Range.{AllInRange}
+use Rattle.flow_program.specs.integer_laws.Range.{AllInRange}
 use Rattle.dual_simplex.specs.Rows.{row_at}
-use Rattle.integer_laws.specs.declared.which.Which.{Which}
+use Rattle.flow_program.specs.integer_laws.declared.which.Which.{Which}
 use Rattle.dual_simplex.specs.Exchange.{IsStepped, IsPastStep, AreStepped, IsPastAmong}
 use Rattle.dual_simplex.proofs.BlockLemmas.{below, row_before}
 

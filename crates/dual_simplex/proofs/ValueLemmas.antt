@@ -7,12 +7,12 @@ use Rattle.std.specs.Int.{◌∣◌}
 use Rattle.std.proofs.lemmas.Int.{ints}
 use Rattle.std.proofs.lemmas.Nat.Gcd.{dvd_trans, dvd_refl, dvd_antisymm}
 use Rattle.std.proofs.lemmas.Bool.Decides.{eqb_tells}
-use Rattle.integer_laws.proofs.Coprime.{one_divides}
-use Rattle.integer_laws.specs.Lowest.{IsLowest}
-use Rattle.exact_numbers.proofs.LowestLemmas.{lowest_same}
-use Rattle.flow_rules.specs.LinearProgram.{LinearProgram}
-use Rattle.flow_rules.specs.Columns.{right_at}
-use Rattle.flow_rules.specs.ReadFlows.{IsLcm}
+use Rattle.flow_program.proofs.integer_laws.Cited.{one_divides}
+use Rattle.flow_program.specs.integer_laws.Lowest.{IsLowest}
+use Rattle.flow_program.proofs.exact_numbers.Cited.{lowest_same}
+use Rattle.flow_program.specs.flow_rules.LinearProgram.{LinearProgram}
+use Rattle.flow_program.specs.flow_rules.Columns.{right_at}
+use Rattle.flow_program.specs.flow_rules.ReadFlows.{IsLcm}
 use Rattle.dual_simplex.specs.Rows.{Rows, table, basis}
 use Rattle.dual_simplex.specs.Choice.{IsOfSize, columns_of}
 use Rattle.dual_simplex.specs.Reading.{Reading}

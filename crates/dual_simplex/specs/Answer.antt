@@ -1,5 +1,5 @@
 -- What each answer of a bench means.
-use Rattle.flow_rules.specs.Program.{Program}
+use Rattle.flow_program.specs.flow_rules.Program.{Program}
 use Rattle.dual_simplex.specs.declared.bench.Ends.{Ends}
 use Rattle.dual_simplex.specs.declared.bench.Ends.TheVariants as ends
 use Rattle.dual_simplex.specs.Bench.{Bench, IsLeastOf, IsNoneOf}

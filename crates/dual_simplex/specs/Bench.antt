@@ -1,14 +1,14 @@
 -- What a bench keeps of the last program that it was given, and what that means.
 use Rattle.std.specs.Prelude.{◌≡◌, ◌+◌, ◌≤◌, ◌≤ℤ◌, pos, ℕ, ℤ, List, length, All}
-use Rattle.flow_rules.specs.declared.place.Column.{Column}
-use Rattle.integer_laws.specs.Range.{InRange, AllInRange}
-use Rattle.flow_rules.specs.Program.{Program}
-use Rattle.flow_rules.specs.LinearProgram.{linear_of}
-use Rattle.flow_rules.specs.Columns.{scale_at}
-use Rattle.flow_rules.specs.Multipliers.{AreMultipliers, AreRefuting}
-use Rattle.flow_rules.specs.ReadFlows.{AreRead}
+use Rattle.flow_program.specs.flow_rules.declared.place.Column.{Column}
+use Rattle.flow_program.specs.integer_laws.Range.{InRange, AllInRange}
+use Rattle.flow_program.specs.flow_rules.Program.{Program}
+use Rattle.flow_program.specs.flow_rules.LinearProgram.{linear_of}
+use Rattle.flow_program.specs.flow_rules.Columns.{scale_at}
+use Rattle.flow_program.specs.flow_rules.Multipliers.{AreMultipliers, AreRefuting}
+use Rattle.flow_program.specs.flow_rules.ReadFlows.{AreRead}
 use Rattle.dual_simplex.specs.Rows.{Rows, table, basis}
-use Rattle.flow_rules.specs.Named.{column_named, nonbasic_named}
+use Rattle.flow_program.specs.flow_rules.Named.{column_named, nonbasic_named}
 use Rattle.dual_simplex.specs.Sizes.{IsSize}
 use Rattle.dual_simplex.specs.Walk.{EndsFeasible, EndsRefuting}
 

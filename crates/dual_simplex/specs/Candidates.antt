@@ -3,8 +3,8 @@
 -- size.
 use Rattle.std.specs.Prelude.{◌≡◌, ◌≢◌, ℕ, suc, ◌<◌, ℤ, pos, ◌*ℤ◌, neg_ℤ, ◌<ℤ◌, ◌≤ℤ◌, Option, Some}
 use Rattle.std.specs.Prelude.{None}
-use Rattle.flow_rules.specs.Lexicographic.{IsBefore}
-use Rattle.flow_rules.specs.Vectors.{gain}
+use Rattle.flow_program.specs.flow_rules.Lexicographic.{IsBefore}
+use Rattle.flow_program.specs.flow_rules.Vectors.{gain}
 use Rattle.dual_simplex.specs.Rows.{Rows, table, basis}
 use Rattle.dual_simplex.specs.Choice.{columns_of, scale_of}
 use Rattle.dual_simplex.specs.declared.candidates.Candidate.{Candidate}

@@ -1,6 +1,6 @@
 -- The places of rows at which an entry is below 0, for the rows of a program of their size.
 use Rattle.std.specs.Prelude.{◌≡◌, ℕ, suc, ◌+◌, ◌<◌, pos, ◌≤ℤ◌}
-use Rattle.flow_rules.specs.LinearProgram.{LinearProgram}
+use Rattle.flow_program.specs.flow_rules.LinearProgram.{LinearProgram}
 use Rattle.dual_simplex.specs.Rows.{Rows, table}
 
 -- the program has as many units and rows

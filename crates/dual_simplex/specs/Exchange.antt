@@ -1,9 +1,9 @@
 -- What an exchange of two columns of the basis does to the rows.
 use Rattle.std.specs.Prelude.{◌≡◌, ◌≢◌, ◌⊎◌, ◌<◌, ℕ, true, false, Bool, cond, ℤ, pos, neg_ℤ, List}
 use Rattle.std.specs.Prelude.{map, slice_index_or}
-use Rattle.integer_laws.specs.declared.which.Which.{Which}
-use Rattle.integer_laws.specs.Combined.{IsCombined, IsPastEntry}
-use Rattle.flow_rules.specs.Columns.{exchanged}
+use Rattle.flow_program.specs.integer_laws.declared.which.Which.{Which}
+use Rattle.flow_program.specs.integer_laws.Combined.{IsCombined, IsPastEntry}
+use Rattle.flow_program.specs.flow_rules.Columns.{exchanged}
 use Rattle.dual_simplex.specs.Rows.{Rows, width, row_at, row_of, basis}
 
 -- a row with entry 0 at e stays, and another is combined with the pivot row so that its entry there

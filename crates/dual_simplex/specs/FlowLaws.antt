@@ -1,14 +1,14 @@
 -- What the flows that a bench keeps mean for the node of a problem whose program it was given. Each
 -- law is the contract of a public function of this crate.
 use Rattle.std.specs.Prelude.{◌≡◌, ◌*ℤ◌}
-use Rattle.problem_rules.specs.Problem.{Problem}
-use Rattle.problem_rules.specs.Validity.{IsValid}
-use Rattle.pns_rules.specs.Nodes.{Node}
-use Rattle.flow_rules.specs.Net.{Net, net_of, beside, units_of}
-use Rattle.flow_rules.specs.Flows.{IsFlows, cost}
-use Rattle.flow_rules.specs.Program.{Program, program_of}
-use Rattle.flow_rules.specs.Relaxed.{IsRelaxed, relaxed_cost, bound, units, rows}
-use Rattle.flow_rules.specs.Places.{IsDecided}
+use Rattle.flow_program.specs.problem_rules.Problem.{Problem}
+use Rattle.flow_program.specs.problem_rules.Validity.{IsValid}
+use Rattle.flow_program.specs.pns_rules.Nodes.{Node}
+use Rattle.flow_program.specs.flow_rules.Net.{Net, net_of, beside, units_of}
+use Rattle.flow_program.specs.flow_rules.Flows.{IsFlows, cost}
+use Rattle.flow_program.specs.flow_rules.Program.{Program, program_of}
+use Rattle.flow_program.specs.flow_rules.Relaxed.{IsRelaxed, relaxed_cost, bound, units, rows}
+use Rattle.flow_program.specs.flow_rules.Places.{IsDecided}
 use Rattle.path_laws.specs.Ends.{IsSplit}
 use Rattle.dual_simplex.specs.Bench.{Bench, IsLeastOf, AreFlowsOf}
 

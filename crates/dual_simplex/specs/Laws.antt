@@ -2,15 +2,15 @@
 -- is the contract of a public function of this crate. Costs and bounds over different denominators
 -- are compared by cross products.
 use Rattle.std.specs.Prelude.{◌≡◌, ℕ, ℤ, pos, ◌*ℤ◌, ◌≤ℤ◌}
-use Rattle.problem_rules.specs.Problem.{Problem}
-use Rattle.problem_rules.specs.Validity.{IsValid}
-use Rattle.pns_rules.specs.Nodes.{Node}
-use Rattle.flow_rules.specs.Net.{net_of, beside}
-use Rattle.flow_rules.specs.Program.{Program, program_of}
-use Rattle.flow_rules.specs.Relaxed.{IsRelaxed, relaxed_cost, bound, Refutes, rows}
-use Rattle.integer_laws.specs.declared.which.Which.{Which}
-use Rattle.flow_rules.specs.LinearProgram.{LinearProgram}
-use Rattle.flow_rules.specs.Path.{IsLast}
+use Rattle.flow_program.specs.problem_rules.Problem.{Problem}
+use Rattle.flow_program.specs.problem_rules.Validity.{IsValid}
+use Rattle.flow_program.specs.pns_rules.Nodes.{Node}
+use Rattle.flow_program.specs.flow_rules.Net.{net_of, beside}
+use Rattle.flow_program.specs.flow_rules.Program.{Program, program_of}
+use Rattle.flow_program.specs.flow_rules.Relaxed.{IsRelaxed, relaxed_cost, bound, Refutes, rows}
+use Rattle.flow_program.specs.integer_laws.declared.which.Which.{Which}
+use Rattle.flow_program.specs.flow_rules.LinearProgram.{LinearProgram}
+use Rattle.flow_program.specs.flow_rules.Path.{IsLast}
 use Rattle.dual_simplex.specs.Rows.{Rows, basis}
 use Rattle.dual_simplex.specs.Walk.{EndsFeasible, EndsRefuting, EndsPast}
 use Rattle.dual_simplex.specs.Bench.{Bench, IsLeastOf, IsNoneOf}

@@ -1,9 +1,9 @@
 -- A number that grows with each pivot of the second kind, and what it stays below.
 use Rattle.std.specs.Prelude.{ℕ, suc, ◌+◌, ◌*◌, ◌^◌}
-use Rattle.flow_rules.specs.LinearProgram.{LinearProgram}
-use Rattle.flow_rules.specs.Columns.{columns, right_at, scale_at}
-use Rattle.flow_rules.specs.Vectors.{value_top, value_bottom}
-use Rattle.flow_rules.specs.Rank.{rank, power}
+use Rattle.flow_program.specs.flow_rules.LinearProgram.{LinearProgram}
+use Rattle.flow_program.specs.flow_rules.Columns.{columns, right_at, scale_at}
+use Rattle.flow_program.specs.flow_rules.Vectors.{value_top, value_bottom}
+use Rattle.flow_program.specs.flow_rules.Rank.{rank, power}
 use Rattle.dual_simplex.specs.Rows.{Rows, table, basis}
 
 -- the rank of the list of the values of the basis, whose numbers are below 2^127

@@ -1,6 +1,6 @@
 -- The numbers of the units and of the materials of a program, by their places in it.
 use Rattle.std.specs.Prelude.{◌≡◌, ℕ, ◌<◌, List, length, slice_index_or}
-use Rattle.flow_rules.specs.Program.{Program}
+use Rattle.flow_program.specs.flow_rules.Program.{Program}
 
 abbrev pub IsTableOf : List ℕ → List ℕ → Type 0
 IsTableOf numbers table = (i : ℕ) → i < length numbers

@@ -2,20 +2,20 @@
 -- names, or a step of a sum over what it keeps. Each law is the contract of a public function of
 -- this crate.
 use Rattle.std.specs.Prelude.{◌≡◌, ℕ, pos}
-use Rattle.pns_rules.specs.Nodes.{Node}
-use Rattle.flow_rules.specs.declared.place.Place.{Place}
-use Rattle.flow_rules.specs.declared.place.Place.TheVariants as places
-use Rattle.flow_rules.specs.Net.{Net, beside}
-use Rattle.flow_rules.specs.Program.{Program, program_of}
-use Rattle.flow_rules.specs.Relaxed.{units, rows}
-use Rattle.flow_rules.specs.Steps.{IsFirstPast}
-use Rattle.flow_rules.specs.BoundSteps.{bound_steps}
-use Rattle.flow_rules.specs.CostSteps.{cost_steps}
-use Rattle.flow_rules.specs.FeasibleSteps.{feasible_steps}
-use Rattle.flow_rules.specs.Places.{IsDecided}
+use Rattle.flow_program.specs.pns_rules.Nodes.{Node}
+use Rattle.flow_program.specs.flow_rules.declared.place.Place.{Place}
+use Rattle.flow_program.specs.flow_rules.declared.place.Place.TheVariants as places
+use Rattle.flow_program.specs.flow_rules.Net.{Net, beside}
+use Rattle.flow_program.specs.flow_rules.Program.{Program, program_of}
+use Rattle.flow_program.specs.flow_rules.Relaxed.{units, rows}
+use Rattle.flow_program.specs.flow_rules.Steps.{IsFirstPast}
+use Rattle.flow_program.specs.flow_rules.BoundSteps.{bound_steps}
+use Rattle.flow_program.specs.flow_rules.CostSteps.{cost_steps}
+use Rattle.flow_program.specs.flow_rules.FeasibleSteps.{feasible_steps}
+use Rattle.flow_program.specs.flow_rules.Places.{IsDecided}
 use Rattle.dual_simplex.specs.Bench.{Bench, IsLeastOf, IsNoneOf, AreFlowsOf}
 use Rattle.dual_simplex.specs.PastPlace.{IsPastOf, IsPastFlowOf}
-use Rattle.flow_rules.specs.PastPlace.{IsPastNamed}
+use Rattle.flow_program.specs.flow_rules.PastPlace.{IsPastNamed}
 
 -- the number at the place overflows at the basis that is kept
 abbrev pub IsPastHere : Net → Node → Bench → Place → Type 0

@@ -1,15 +1,15 @@
 -- The place that a bench names when a number leaves the range.
 use Rattle.std.specs.Prelude.{◌≡◌, ℕ, ◌<◌, length}
-use Rattle.integer_laws.specs.declared.which.Which.{Which}
-use Rattle.flow_rules.specs.declared.place.Place.{Place}
-use Rattle.flow_rules.specs.Program.{Program}
-use Rattle.flow_rules.specs.LinearProgram.{linear_of}
-use Rattle.flow_rules.specs.ReadFlows.{FlowStep, IsPastFlow}
-use Rattle.flow_rules.specs.Places as path
+use Rattle.flow_program.specs.integer_laws.declared.which.Which.{Which}
+use Rattle.flow_program.specs.flow_rules.declared.place.Place.{Place}
+use Rattle.flow_program.specs.flow_rules.Program.{Program}
+use Rattle.flow_program.specs.flow_rules.LinearProgram.{linear_of}
+use Rattle.flow_program.specs.flow_rules.ReadFlows.{FlowStep, IsPastFlow}
+use Rattle.flow_program.specs.flow_rules.Places as path
 use Rattle.dual_simplex.specs.Rows.{table, basis}
 use Rattle.dual_simplex.specs.Walk.{EndsPast}
 use Rattle.dual_simplex.specs.Bench.{Bench}
-use Rattle.flow_rules.specs.Named.{nonbasic_named, place_named}
+use Rattle.flow_program.specs.flow_rules.Named.{nonbasic_named, place_named}
 
 -- at the pivot of the basis that is kept an entry is out of range
 pub record IsPastOf (q : Program) (b : Bench) (place : Place) : Type 0 where

@@ -1,16 +1,17 @@
 -- Names for units and rows of a program: a unit's number is one of its units, a material's one of
 -- its rows.
 use Rattle.std.specs.Prelude.{◌≡◌, ℕ, true, Option, Some, None}
-use Rattle.number_sets.specs.Sets.{has}
-use Rattle.problem_rules.specs.Each.{Each}
-use Rattle.flow_rules.specs.declared.place.Column.{Column}
-use Rattle.flow_rules.specs.declared.place.Column.TheVariants.{X, S, T, W, Right, Scale}
-use Rattle.flow_rules.specs.declared.place.Place.{Place}
-use Rattle.flow_rules.specs.declared.place.Place.TheVariants as places
-use Rattle.flow_rules.specs.Program.{Program}
-use Rattle.flow_rules.specs.Columns.{Basis}
+use Rattle.flow_program.specs.number_sets.Sets.{has}
+use Rattle.flow_program.specs.problem_rules.Each.{Each}
+use Rattle.flow_program.specs.flow_rules.declared.place.Column.{Column}
+use Rattle.flow_program.specs.flow_rules.declared.place.Column.TheVariants.{X, S, T, W, Right}
+use Rattle.flow_program.specs.flow_rules.declared.place.Column.TheVariants.{Scale}
+use Rattle.flow_program.specs.flow_rules.declared.place.Place.{Place}
+use Rattle.flow_program.specs.flow_rules.declared.place.Place.TheVariants as places
+use Rattle.flow_program.specs.flow_rules.Program.{Program}
+use Rattle.flow_program.specs.flow_rules.Columns.{Basis}
 use Rattle.dual_simplex.specs.Bench.{Bench, IsNoneOf}
-use Rattle.flow_rules.specs.Named.{column_named, nonbasic_named}
+use Rattle.flow_program.specs.flow_rules.Named.{column_named, nonbasic_named}
 use Rattle.dual_simplex.specs.PastPlace.{IsPastOf, IsPastFlowOf}
 
 abbrev pub IsColumnOf : Program → Column → Type 0

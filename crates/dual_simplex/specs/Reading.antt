@@ -1,9 +1,10 @@
 -- How far the flows of a basis are read: which of the numbers that are formed are in range.
 use Rattle.std.specs.Prelude.{◌≡◌, ℕ, ◌<◌, true, ℤ, pos, ◌<ℤ◌, List, [], ◌∷◌, ◌++◌, map, get_or}
 use Rattle.std.specs.List.{range_with_len}
-use Rattle.flow_rules.specs.Steps.{AreInRange, IsFirstPast}
-use Rattle.flow_rules.specs.LinearProgram.{LinearProgram}
-use Rattle.flow_rules.specs.ReadFlows.{Shift, Scaled, Total, Formed, AreValues, formed, sizes}
+use Rattle.flow_program.specs.flow_rules.Steps.{AreInRange, IsFirstPast}
+use Rattle.flow_program.specs.flow_rules.LinearProgram.{LinearProgram}
+use Rattle.flow_program.specs.flow_rules.ReadFlows.{Shift, Scaled, Total, Formed, AreValues, formed}
+use Rattle.flow_program.specs.flow_rules.ReadFlows.{sizes}
 use Rattle.dual_simplex.specs.Rows.{Rows, table, basis}
 use Rattle.dual_simplex.specs.Choice.{IsOfSize}
 

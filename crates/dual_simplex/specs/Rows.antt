@@ -3,8 +3,8 @@
 use Rattle.std.specs.Prelude.{◌≡◌, ℕ, suc, ◌+◌, ◌*◌, ◌≤◌, Bool, false, ℤ, pos, List, length}
 use Rattle.std.specs.Prelude.{slice_index_or}
 use Rattle.std.specs.List.{slice_range}
-use Rattle.integer_laws.specs.Range.{AllInRange}
-use Rattle.flow_rules.specs.Columns.{Basis}
+use Rattle.flow_program.specs.integer_laws.Range.{AllInRange}
+use Rattle.flow_program.specs.flow_rules.Columns.{Basis}
 
 pub record Rows : Type 0 where
   -- of the program

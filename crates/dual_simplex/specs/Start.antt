@@ -2,9 +2,9 @@
 -- scale.
 use Rattle.std.specs.Prelude.{ℕ, suc, ◌+◌, ◌-◌, Bool, false, cond, nat_eq, nat_lt, nat_le, ℤ, pos}
 use Rattle.std.specs.Prelude.{◌-ℤ◌, neg_ℤ}
-use Rattle.flow_rules.specs.LinearProgram.{LinearProgram, low_flow}
-use Rattle.flow_rules.specs.Columns.{right_at}
-use Rattle.flow_rules.specs.Start.{one_at}
+use Rattle.flow_program.specs.flow_rules.LinearProgram.{LinearProgram, low_flow}
+use Rattle.flow_program.specs.flow_rules.Columns.{right_at}
+use Rattle.flow_program.specs.flow_rules.Start.{one_at}
 
 -- at the x of a unit
 abbrev pub start_at_x : LinearProgram → ℕ → ℕ → ℤ

@@ -1,11 +1,11 @@
 -- Rows with the tableau of a basis of the path of a linear program.
 use Rattle.std.specs.Prelude.{◌≡◌, ℕ, ℤ}
-use Rattle.integer_laws.specs.declared.which.Which.{Which}
-use Rattle.flow_rules.specs.LinearProgram.{LinearProgram}
-use Rattle.flow_rules.specs.Tableau.{IsTableau}
-use Rattle.flow_rules.specs.Path.{Reaches}
-use Rattle.flow_rules.specs.Pivots.{IsFeasible, IsRefuting}
-use Rattle.flow_rules.specs.Places.{IsPastPivot}
+use Rattle.flow_program.specs.integer_laws.declared.which.Which.{Which}
+use Rattle.flow_program.specs.flow_rules.LinearProgram.{LinearProgram}
+use Rattle.flow_program.specs.flow_rules.Tableau.{IsTableau}
+use Rattle.flow_program.specs.flow_rules.Path.{Reaches}
+use Rattle.flow_program.specs.flow_rules.Pivots.{IsFeasible, IsRefuting}
+use Rattle.flow_program.specs.flow_rules.Places.{IsPastPivot}
 use Rattle.path_laws.specs.Phases.{IsFirstPhase, VectorsRise}
 use Rattle.dual_simplex.specs.Rows.{Rows, table, basis}
 use Rattle.dual_simplex.specs.Choice.{IsOfSize}

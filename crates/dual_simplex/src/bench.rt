@@ -1,6 +1,6 @@
 //! [`Bench`], on which programs are solved one after the other.
 ghost use Rattle.std.specs.Prelude.{◌≡◌, ◌≤◌, ◌<◌, ℕ, length, All, IfOk, IfErr, OnOk, OnErr};
-ghost use Rattle.flow_rules.specs.Program.{Program};
+ghost use Rattle.flow_program.specs.flow_rules.Program.{Program};
 ghost use Rattle.dual_simplex.specs.PastPlace.{IsPastOf, IsPastFlowOf};
 ghost use Rattle.dual_simplex.specs.Bench.{HasRoom, IsLeastOf, AreFlowsOf};
 ghost use Rattle.dual_simplex.specs.Answer.{EndsAs};
@@ -11,8 +11,7 @@ use crate::names::{column_at, entry_place, flow_place, put_nonbasic};
 use crate::rows::Rows;
 use crate::sizes::put_sizes;
 use crate::walk::walk;
-use flow_program::Program;
-use flow_rules::{Column, Place};
+use flow_program::{Column, Place, Program};
 use std::alloc::{AllocError, Global};
 use std::marker::Model;
 

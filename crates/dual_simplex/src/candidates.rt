@@ -1,6 +1,6 @@
 // A column that could enter the basis.
 ghost use Rattle.std.specs.Prelude.{◌≡◌, ◌<◌, pos, ◌<ℤ◌, neg_ℤ};
-ghost use Rattle.integer_laws.specs.Range.{InRange};
+ghost use Rattle.flow_program.specs.integer_laws.Range.{InRange};
 ghost use Rattle.dual_simplex.specs.Rows.{table};
 ghost use Rattle.dual_simplex.specs.Choice.{columns_of};
 

@@ -1,9 +1,9 @@
 // The first round of a reading: the common denominator of the values of the units.
 ghost use Rattle.std.specs.Prelude.{◌≡◌, ◌<◌, ℕ, suc, true, pos, ◌<ℤ◌, unsigned_abs, IfErr, IfNone};
 ghost use Rattle.std.specs.Prelude.{IfOk, IfSome};
-ghost use Rattle.integer_laws.specs.Range.{InRange};
-ghost use Rattle.flow_rules.specs.LinearProgram.{LinearProgram};
-ghost use Rattle.flow_rules.specs.ReadFlows.{rounds};
+ghost use Rattle.flow_program.specs.integer_laws.Range.{InRange};
+ghost use Rattle.flow_program.specs.flow_rules.LinearProgram.{LinearProgram};
+ghost use Rattle.flow_program.specs.flow_rules.ReadFlows.{rounds};
 ghost use Rattle.dual_simplex.specs.Rows.{table, basis};
 ghost use Rattle.dual_simplex.specs.Reading.{IsOwnPositive, Reading, IsFormedTo, IsFirstOut};
 ghost use Rattle.dual_simplex.specs.Reading.{formed_of, second_round};
@@ -12,8 +12,7 @@ ghost use Rattle.dual_simplex.specs.Step.{step_of};
 use crate::multiple::checked_lcm;
 use crate::past_flow::PastFlow;
 use crate::rows::Rows;
-use flow_rules::FlowStep;
-use exact_numbers::lowest_terms;
+use flow_program::{FlowStep, lowest_terms};
 
 /// The common denominator after a unit, from the one before it; or `None` if it is out of range.
 fn next_denominator(rows: &Rows, unit: usize, den: i128) -> Option<i128>

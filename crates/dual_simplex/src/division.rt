@@ -1,10 +1,10 @@
 // A number and a row after it, divided by their greatest common divisor.
 ghost use Rattle.std.specs.Prelude.{◌≡◌, ◌<ℤ◌, ◌*ℤ◌, pos, unsigned_abs, int_div, map, ◌∷◌};
 ghost use Rattle.std.specs.Int.{◌∣◌};
-ghost use Rattle.integer_laws.specs.Range.{InRange, AllInRange};
-ghost use Rattle.integer_laws.specs.Reduced.{DividesAll, IsRowGcd, IsReduced};
+ghost use Rattle.flow_program.specs.integer_laws.Range.{InRange, AllInRange};
+ghost use Rattle.flow_program.specs.integer_laws.Reduced.{DividesAll, IsRowGcd, IsReduced};
 
-use exact_numbers::gcd;
+use flow_program::gcd;
 
 /// The number divided by a divisor of it that is above 0.
 pub(crate) fn quotient(number: i128, divisor: i128) -> i128

@@ -1,17 +1,17 @@
 // The multipliers of the rows of a program, and those by which a row refutes.
 ghost use Rattle.std.specs.Prelude.{◌≡◌, ◌<◌, ◌+◌, ℕ, pos, ◌-ℤ◌, ◌<ℤ◌, ◌≤ℤ◌, length};
 ghost use Rattle.std.specs.Prelude.{slice_index_or};
-ghost use Rattle.integer_laws.specs.Range.{InRange, AllInRange};
-ghost use Rattle.flow_rules.specs.Columns.{scale_at};
-ghost use Rattle.flow_rules.specs.LinearProgram.{LinearProgram};
-ghost use Rattle.flow_rules.specs.Multipliers.{AreMultipliers, AreRefuting};
+ghost use Rattle.flow_program.specs.integer_laws.Range.{InRange, AllInRange};
+ghost use Rattle.flow_program.specs.flow_rules.Columns.{scale_at};
+ghost use Rattle.flow_program.specs.flow_rules.LinearProgram.{LinearProgram};
+ghost use Rattle.flow_program.specs.flow_rules.Multipliers.{AreMultipliers, AreRefuting};
 ghost use Rattle.dual_simplex.specs.Rows.{width, table};
 ghost use Rattle.dual_simplex.specs.Choice.{IsOfSize, columns_of, scale_of};
 ghost use Rattle.dual_simplex.specs.Dual.{multiplier_of, IsNotNegative};
 
 use crate::division::reduce;
 use crate::rows::Rows;
-use exact_numbers::primitive;
+use flow_program::primitive;
 
 /// The difference of two numbers that are not below 0.
 fn difference(left: i128, right: i128) -> i128

@@ -2,11 +2,11 @@
 //! refutation.
 ghost use Rattle.std.specs.Prelude.{◌≡◌, ◌<◌, ◌≤◌, ◌<ℤ◌, pos, length, take, IfOk, IfErr, OnOk};
 ghost use Rattle.std.specs.Prelude.{OnErr};
-ghost use Rattle.integer_laws.specs.Range.{InRange, AllInRange};
-ghost use Rattle.flow_rules.specs.LinearProgram.{linear_of};
-ghost use Rattle.flow_rules.specs.Columns.{scale_at};
-ghost use Rattle.flow_rules.specs.Multipliers.{AreMultipliers, AreRefuting};
-ghost use Rattle.flow_rules.specs.ReadFlows.{AreRead, IsPastFlow};
+ghost use Rattle.flow_program.specs.integer_laws.Range.{InRange, AllInRange};
+ghost use Rattle.flow_program.specs.flow_rules.LinearProgram.{linear_of};
+ghost use Rattle.flow_program.specs.flow_rules.Columns.{scale_at};
+ghost use Rattle.flow_program.specs.flow_rules.Multipliers.{AreMultipliers, AreRefuting};
+ghost use Rattle.flow_program.specs.flow_rules.ReadFlows.{AreRead, IsPastFlow};
 ghost use Rattle.dual_simplex.specs.Rows.{table, basis};
 ghost use Rattle.dual_simplex.specs.Step.{step_of};
 ghost use Rattle.dual_simplex.specs.Walk.{EndsFeasible, EndsRefuting};

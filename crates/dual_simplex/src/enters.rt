@@ -1,7 +1,7 @@
 // Which column enters the basis at a pivot of the second kind.
 ghost use Rattle.std.specs.Prelude.{◌≡◌, ◌<◌, ◌+◌, ℕ, suc, false, pos, ◌<ℤ◌, ◌≤ℤ◌, IfNone, IfSome};
-ghost use Rattle.flow_rules.specs.LinearProgram.{LinearProgram};
-ghost use Rattle.flow_rules.specs.Pivots.{IsEntering};
+ghost use Rattle.flow_program.specs.flow_rules.LinearProgram.{LinearProgram};
+ghost use Rattle.flow_program.specs.flow_rules.Pivots.{IsEntering};
 ghost use Rattle.dual_simplex.specs.Rows.{table, basis};
 ghost use Rattle.dual_simplex.specs.Choice.{IsOfSize, columns_of};
 ghost use Rattle.dual_simplex.specs.Candidates.{IsBestBelow};

@@ -2,7 +2,7 @@
 //! range.
 ghost use Rattle.std.specs.Prelude.{◌≡◌, ◌<◌, ◌≤◌, ◌^◌, ◌*◌, ◌+◌, ◌+ℤ◌, ◌-ℤ◌, ◌*ℤ◌, neg_ℤ, length};
 ghost use Rattle.std.specs.Prelude.{unsigned_abs};
-ghost use Rattle.flow_rules.specs.LinearProgram.{linear_of, low_flow};
+ghost use Rattle.flow_program.specs.flow_rules.LinearProgram.{linear_of, low_flow};
 
 use flow_program::Program;
 

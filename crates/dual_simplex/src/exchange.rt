@@ -1,7 +1,7 @@
 //! The exchange of two columns of the basis.
 ghost use Rattle.std.specs.Prelude.{◌≡◌, ◌≢◌, ◌<◌, ◌≤◌, ◌+◌, ◌*◌, ◌<ℤ◌, pos, suc, ℕ, true, false};
 ghost use Rattle.std.specs.Prelude.{length, OnOk, IfErr, slice_index_or};
-ghost use Rattle.integer_laws.specs.Range.{AllInRange};
+ghost use Rattle.flow_program.specs.integer_laws.Range.{AllInRange};
 ghost use Rattle.dual_simplex.specs.Rows.{row_at};
 ghost use Rattle.dual_simplex.specs.Exchange.{pivot_row, AreStepped, IsPastAmong};
 

@@ -2,10 +2,10 @@
 ghost use Rattle.std.specs.Prelude.{◌≡◌, ◌<◌, ℕ, pos, ◌<ℤ◌, length, map, slice_index_or, IfErr};
 ghost use Rattle.std.specs.Prelude.{IfOk, OnOk};
 ghost use Rattle.std.specs.Option.{SomeIff};
-ghost use Rattle.integer_laws.specs.Range.{InRange, AllInRange};
-ghost use Rattle.flow_rules.specs.Steps.{AreInRange};
-ghost use Rattle.flow_rules.specs.LinearProgram.{LinearProgram, linear_of};
-ghost use Rattle.flow_rules.specs.ReadFlows.{size, size_above};
+ghost use Rattle.flow_program.specs.integer_laws.Range.{InRange, AllInRange};
+ghost use Rattle.flow_program.specs.flow_rules.Steps.{AreInRange};
+ghost use Rattle.flow_program.specs.flow_rules.LinearProgram.{LinearProgram, linear_of};
+ghost use Rattle.flow_program.specs.flow_rules.ReadFlows.{size, size_above};
 ghost use Rattle.dual_simplex.specs.Choice.{IsOfSize};
 ghost use Rattle.dual_simplex.specs.Reading.{IsOwnPositive, Reading, IsFirstOut, formed_of};
 ghost use Rattle.dual_simplex.specs.Reading.{size_steps, second_round};
@@ -14,9 +14,7 @@ ghost use Rattle.dual_simplex.specs.Step.{step_of};
 use crate::division::quotient;
 use crate::past_flow::PastFlow;
 use crate::rows::Rows;
-use flow_program::Program;
-use flow_rules::FlowStep;
-use exact_numbers::{checked_product, checked_sum, lowest_terms};
+use flow_program::{FlowStep, Program, checked_product, checked_sum, lowest_terms};
 
 /// The size of a unit above its least, over the common denominator; `None` exactly if it is out of
 /// range.

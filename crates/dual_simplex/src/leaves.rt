@@ -1,8 +1,8 @@
 //! Which column leaves the basis.
 ghost use Rattle.std.specs.Prelude.{◌≡◌, ◌<◌, true, false, pos, ◌<ℤ◌, ◌≤ℤ◌, IfNone, IfSome};
 ghost use Rattle.std.specs.Prelude.{IsTrue};
-ghost use Rattle.flow_rules.specs.LinearProgram.{LinearProgram};
-ghost use Rattle.flow_rules.specs.Pivots.{IsFeasible, IsLeaving};
+ghost use Rattle.flow_program.specs.flow_rules.LinearProgram.{LinearProgram};
+ghost use Rattle.flow_program.specs.flow_rules.Pivots.{IsFeasible, IsLeaving};
 ghost use Rattle.dual_simplex.specs.Rows.{table, basis};
 ghost use Rattle.dual_simplex.specs.Choice.{IsOfSize, columns_of, IsDualFeasible};
 

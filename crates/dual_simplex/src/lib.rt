@@ -44,6 +44,12 @@ mod step;
 mod walk;
 
 pub use bench::{Bench, Ends};
+pub use flow_program::{
+    CostOver, Cover, Covers, Frac, Graph, Kind, MatSet, Material, Mixed, Node, OperatingUnit,
+    PastSum, Place, Problem, Program, Site, Term, UnitSet, Verdict, amount_text, bound_of,
+    checked_difference, checked_product, checked_sum, cost_of, feasible, lowest_terms, rate_at,
+    refutation, refutes, relaxed_duality, sets_of, sums_are_last, valid_is_proper, weak_duality,
+};
 pub use laws::{
     flows_are_least, kept_basis_is_last, least_is_least, none_is_refuted, split_flows_are_least,
 };

@@ -1,9 +1,9 @@
 // The least common multiple in the symmetric range.
 ghost use Rattle.std.specs.Prelude.{◌<ℤ◌, ℤ, pos, unsigned_abs, IfNone, IfSome};
-ghost use Rattle.integer_laws.specs.Range.{InRange};
-ghost use Rattle.flow_rules.specs.ReadFlows.{IsLcm};
+ghost use Rattle.flow_program.specs.integer_laws.Range.{InRange};
+ghost use Rattle.flow_program.specs.flow_rules.ReadFlows.{IsLcm};
 
-use exact_numbers::{checked_product, lowest_terms};
+use flow_program::{checked_product, lowest_terms};
 
 /// The least common multiple; `None` exactly if it is out of range.
 pub fn checked_lcm(a: i128, b: i128) -> Option<i128>

@@ -1,22 +1,22 @@
 //! Columns and places by the numbers of the problem.
 ghost use Rattle.std.specs.Prelude.{◌≡◌, ◌<◌, ◌≤◌, ◌++◌, ◌+◌, ℕ, [], ◌∷◌, cond, nat_eq, length};
 ghost use Rattle.std.specs.Prelude.{take, Some, None};
-ghost use Rattle.flow_rules.specs.LinearProgram.{linear_of};
-ghost use Rattle.flow_rules.specs.Columns.{columns, scale_at};
-ghost use Rattle.flow_rules.specs.Places as path;
+ghost use Rattle.flow_program.specs.flow_rules.LinearProgram.{linear_of};
+ghost use Rattle.flow_program.specs.flow_rules.Columns.{columns, scale_at};
+ghost use Rattle.flow_program.specs.flow_rules.Places as path;
 ghost use Rattle.dual_simplex.specs.Rows.{basis, width};
 ghost use Rattle.dual_simplex.specs.Choice.{IsOfSize};
 ghost use Rattle.dual_simplex.specs.Step.{step_of};
-ghost use Rattle.flow_rules.specs.Named.{unit_named, named_at, column_named, nonbasic_named};
-ghost use Rattle.flow_rules.specs.Named.{place_named};
+ghost use Rattle.flow_program.specs.flow_rules.Named.{unit_named, named_at, column_named};
+ghost use Rattle.flow_program.specs.flow_rules.Named.{nonbasic_named};
+ghost use Rattle.flow_program.specs.flow_rules.Named.{place_named};
 ghost use Rattle.dual_simplex.specs.Numbers.{AreNumbers};
 
 use crate::numbers::{Numbers, numbers_of};
 use crate::past_flow::PastFlow;
 use crate::rows::Rows;
 use crate::walk::PastPivot;
-use flow_program::Program;
-use flow_rules::{Column, Place};
+use flow_program::{Column, Place, Program};
 
 fn unit_count(program: &Program) -> usize
     ensures count { result ≡ length program.now.units }

@@ -2,8 +2,7 @@
 ghost use Rattle.std.specs.Prelude.{◌≡◌, ◌<◌, ℕ, length, slice_index_or};
 ghost use Rattle.dual_simplex.specs.Numbers.{IsTableOf, AreNumbers};
 
-use flow_program::Program;
-use unit_sets::{MatSet, UnitSet};
+use flow_program::{MatSet, Program, UnitSet};
 
 /// Both tables. What follows the numbers does not matter.
 #[derive(Clone, Copy)]

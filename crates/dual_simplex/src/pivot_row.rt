@@ -1,6 +1,6 @@
 //! The pivot row of an exchange.
 ghost use Rattle.std.specs.Prelude.{◌≡◌, ◌≢◌, ◌<◌, ◌≤◌, ◌+◌, ◌*◌, neg_ℤ, ℕ, length, map};
-ghost use Rattle.integer_laws.specs.Range.{InRange, AllInRange};
+ghost use Rattle.flow_program.specs.integer_laws.Range.{InRange, AllInRange};
 ghost use Rattle.dual_simplex.specs.Rows.{row_at};
 ghost use Rattle.dual_simplex.specs.Exchange.{pivot_row};
 

@@ -1,15 +1,14 @@
 // Two columns that could enter the basis, compared by their vectors.
 ghost use Rattle.std.specs.Prelude.{◌≡◌, ◌≢◌, ◌<◌, ◌+◌, suc, false, pos, ◌*ℤ◌, ◌<ℤ◌, IsTrue};
 ghost use Rattle.std.specs.Ordering.{int_cmp};
-ghost use Rattle.integer_laws.specs.Range.{InRange};
+ghost use Rattle.flow_program.specs.integer_laws.Range.{InRange};
 ghost use Rattle.dual_simplex.specs.Rows.{basis};
 ghost use Rattle.dual_simplex.specs.Choice.{columns_of};
 ghost use Rattle.dual_simplex.specs.Candidates.{vector, ComesBefore};
 
 use crate::candidates::{Candidate, negated};
 use crate::rows::Rows;
-use exact_numbers::Frac;
-use exact_numbers::checked_product;
+use flow_program::{Frac, checked_product};
 use path_laws::columns_are_ordered;
 use std::cmp::Ordering;
 

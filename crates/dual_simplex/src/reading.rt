@@ -1,8 +1,8 @@
 // The flows of a basis without a pivot.
 ghost use Rattle.std.specs.Prelude.{◌≡◌, pos, ◌<ℤ◌, length, IfErr, IfOk, OnErr, OnOk};
-ghost use Rattle.integer_laws.specs.Range.{InRange, AllInRange};
-ghost use Rattle.flow_rules.specs.LinearProgram.{linear_of};
-ghost use Rattle.flow_rules.specs.ReadFlows.{AreRead, IsPastFlow};
+ghost use Rattle.flow_program.specs.integer_laws.Range.{InRange, AllInRange};
+ghost use Rattle.flow_program.specs.flow_rules.LinearProgram.{linear_of};
+ghost use Rattle.flow_program.specs.flow_rules.ReadFlows.{AreRead, IsPastFlow};
 ghost use Rattle.dual_simplex.specs.Rows.{table, basis};
 ghost use Rattle.dual_simplex.specs.Choice.{IsOfSize};
 ghost use Rattle.dual_simplex.specs.Reading.{IsOwnPositive};

@@ -1,10 +1,10 @@
 //! [`Rows`], and what is read of it.
 ghost use Rattle.std.specs.Prelude.{◌≡◌, ◌<◌, ◌≤◌, ◌+◌, ◌*◌, ◌<ℤ◌, pos, suc, length, true, false};
 ghost use Rattle.std.specs.Prelude.{slice_set, slice_index_or, ℕ, IfOk, OnOk, OnErr, IfErr};
-ghost use Rattle.flow_rules.specs.LinearProgram.{linear_of};
-ghost use Rattle.flow_rules.specs.Columns.{start};
-ghost use Rattle.flow_rules.specs.Start.{IsStart};
-ghost use Rattle.integer_laws.specs.Range.{InRange, AllInRange};
+ghost use Rattle.flow_program.specs.flow_rules.LinearProgram.{linear_of};
+ghost use Rattle.flow_program.specs.flow_rules.Columns.{start};
+ghost use Rattle.flow_program.specs.flow_rules.Start.{IsStart};
+ghost use Rattle.flow_program.specs.integer_laws.Range.{InRange, AllInRange};
 ghost use Rattle.dual_simplex.specs.Rows.{width, row_of, table, basis, AreRows};
 ghost use Rattle.dual_simplex.specs.Exchange.{pivot_row, IsExchanged, IsPastRow, IsSameSize};
 

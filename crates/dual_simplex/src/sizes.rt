@@ -1,7 +1,7 @@
 //! The sizes of the units at the last basis, rounded down. They guide a search: proofs use only
 //! their range.
 ghost use Rattle.std.specs.Prelude.{◌≡◌, ◌<◌, ◌≤◌, length, All};
-ghost use Rattle.flow_rules.specs.LinearProgram.{linear_of};
+ghost use Rattle.flow_program.specs.flow_rules.LinearProgram.{linear_of};
 ghost use Rattle.dual_simplex.specs.Reading.{IsOwnPositive};
 ghost use Rattle.dual_simplex.specs.Walk.{EndsFeasible};
 ghost use Rattle.dual_simplex.specs.Sizes.{IsSize};

@@ -1,9 +1,9 @@
 //! The rows at the start of the path.
 ghost use Rattle.std.specs.Prelude.{◌≡◌, ◌≢◌, ◌<◌, ◌≤◌, ◌+◌, ◌*◌, ◌^◌, ℕ, neg_ℤ, suc, false};
 ghost use Rattle.std.specs.Prelude.{length, pos, slice_index_or, unsigned_abs};
-ghost use Rattle.integer_laws.specs.Range.{InRange, AllInRange};
-ghost use Rattle.flow_rules.specs.LinearProgram.{linear_of};
-ghost use Rattle.flow_rules.specs.Start.{one_at};
+ghost use Rattle.flow_program.specs.integer_laws.Range.{InRange, AllInRange};
+ghost use Rattle.flow_program.specs.flow_rules.LinearProgram.{linear_of};
+ghost use Rattle.flow_program.specs.flow_rules.Start.{one_at};
 ghost use Rattle.dual_simplex.specs.Rows.{row_at, width_of};
 ghost use Rattle.dual_simplex.specs.Start.{start_at_x, start_at_right, start_entry, start_of};
 

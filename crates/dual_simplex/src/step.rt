@@ -1,12 +1,11 @@
 //! The steps of the rows at an exchange.
 ghost use Rattle.std.specs.Prelude.{◌≡◌, ◌≢◌, ◌<◌, ◌≤◌, ◌+◌, ◌*◌, ◌<ℤ◌, pos, ℕ, length, OnOk};
 ghost use Rattle.std.specs.Prelude.{IfErr, slice_index_or};
-ghost use Rattle.integer_laws.specs.Range.{AllInRange};
+ghost use Rattle.flow_program.specs.integer_laws.Range.{AllInRange};
 ghost use Rattle.dual_simplex.specs.Rows.{row_at};
 ghost use Rattle.dual_simplex.specs.Exchange.{IsStepped, IsPastStep, AreStepped, IsPastAmong};
 
-use exact_numbers::{PastEntry, combine};
-use integer_laws::Which;
+use flow_program::{PastEntry, Which, combine};
 
 /// The first number out of range among the rows of a basis, in the order of their columns: at place
 /// `j` of the row.

@@ -1,8 +1,8 @@
 //! The walk of the path, from pivot to pivot.
 ghost use Rattle.std.specs.Prelude.{◌≡◌, ◌<◌, ◌≤◌, ◌+◌, ◌-◌, ℕ, pos, suc, true, false, length};
 ghost use Rattle.std.specs.Prelude.{IsTrue, ◌<ℤ◌, ◌≤ℤ◌, OnOk, IfOk, IfErr, IfSome, IfNone};
-ghost use Rattle.flow_rules.specs.LinearProgram.{linear_of};
-ghost use Rattle.flow_rules.specs.Pivots.{IsLeaving, IsEntering};
+ghost use Rattle.flow_program.specs.flow_rules.LinearProgram.{linear_of};
+ghost use Rattle.flow_program.specs.flow_rules.Pivots.{IsLeaving, IsEntering};
 ghost use Rattle.dual_simplex.specs.Rows.{table, basis};
 ghost use Rattle.dual_simplex.specs.Choice.{IsOfSize, scale_of};
 ghost use Rattle.dual_simplex.specs.Walk.{IsInFirst, IsInSecond, EndsFeasible, EndsRefuting};
@@ -12,8 +12,7 @@ ghost use Rattle.dual_simplex.specs.Measure.{rank_of, ranks};
 use crate::enters::entering;
 use crate::leaves::leaving;
 use crate::rows::Rows;
-use flow_program::Program;
-use integer_laws::Which;
+use flow_program::{Program, Which};
 
 /// A pivot of the path at which a number is out of range, and which number. Columns are named by
 /// their places in a row.

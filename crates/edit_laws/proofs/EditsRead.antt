@@ -4,14 +4,14 @@ use Rattle.std.proofs.Common.{◌∷◌, length, map, codes, decimal, Result, Ok
 use Rattle.std.proofs.Common.{unsigned_abs, refl, sym, ◌∙◌, ap, arith, length-append, ltb-true}
 use Rattle.std.specs.List.{list_any}
 use Rattle.std.proofs.lemmas.Bool.{true≢false}
-use Rattle.problem_rules.specs.Each.{Each}
-use Rattle.problem_rules.specs.Problem.{Kind, raw_material, intermediate, product}
-use Rattle.problem_rules.specs.WellFormed.{IsInRange}
-use Rattle.text_rules.specs.Canonical.{joined, kind_word}
-use Rattle.text_rules.specs.Fault.{millionths}
-use Rattle.text_rules.specs.Printed.{amount_bytes}
-use Rattle.text_rules.specs.Value.{kind_of}
-use Rattle.text_laws.proofs.Each.{each-append, each-to}
+use Rattle.edit_rules.specs.problem_rules.Each.{Each}
+use Rattle.edit_rules.specs.problem_rules.Problem.{Kind, raw_material, intermediate, product}
+use Rattle.edit_rules.specs.problem_rules.WellFormed.{IsInRange}
+use Rattle.edit_rules.specs.text_rules.Canonical.{joined, kind_word}
+use Rattle.edit_rules.specs.text_rules.Fault.{millionths}
+use Rattle.edit_rules.specs.text_rules.Printed.{amount_bytes}
+use Rattle.edit_rules.specs.text_rules.Value.{kind_of}
+use Rattle.text_laws.proofs.Cited.{each-append, each-to, split_joined, name_word, amount_word}
 use Rattle.edit_rules.specs.Edit.{NamedTerm, Edit, price, bounds, kind, capacity, fix, proportional}
 use Rattle.edit_rules.specs.Edit.{rename_material, rename_unit, add_material, remove_material}
 use Rattle.edit_rules.specs.Edit.{add_unit, remove_unit, exclude, unexclude, investment, payout}
@@ -33,8 +33,6 @@ use Rattle.edit_rules.specs.Term.{Pair, terms_fault, sides_fault, term_read}
 use Rattle.edit_laws.proofs.ScriptLines.{IsLine, lines_back}
 use Rattle.edit_laws.proofs.SidesRead.{pair_at, sides_back, terms_back, terms_clear, sides_clear}
 use Rattle.edit_laws.proofs.SidesRead.{side_each}
-use Rattle.text_laws.proofs.Cuts.{split_joined}
-use Rattle.text_laws.proofs.Words.{name_word, amount_word}
 use Rattle.edit_laws.proofs.Tokens.{IsToken, word_token, decimal_word, token_none, tokens_none}
 use Rattle.edit_laws.proofs.TokensRead.{unless_true, least_none, name_none, names_none, kind_none}
 use Rattle.edit_laws.proofs.TokensRead.{kind_back, millionths_back, amount_none, bound_none}

@@ -9,15 +9,17 @@ use Rattle.std.proofs.lemmas.Slice.Eq.{bytes_eq-Decides}
 use Rattle.std.proofs.lemmas.Bool.{or_parts, or_from, or_left, or_right, and_from, not-false}
 use Rattle.std.proofs.lemmas.Bool.{both_ways, lt-ltb, eqb-true, eq-eqb, eqb-false}
 use Rattle.std.proofs.lemmas.Bool.Decides.{Decides-eqb}
-use Rattle.number_sets.specs.Sets.{has, IsRising, AreBelow}
-use Rattle.number_sets.proofs.SetLemmas.{same_tests, has-listed, below_not_had}
-use Rattle.problem_rules.specs.Problem.{Problem, Material, Term, OperatingUnit, Exclusion}
-use Rattle.problem_rules.specs.Problem.{no_material, no_unit, no_exclusion, material_at, unit_at}
-use Rattle.problem_rules.specs.Problem.{exclusion_at, terms_have, numbers_of, rates_of}
-use Rattle.problem_rules.specs.Problem.{material_names, unit_names}
-use Rattle.problem_rules.specs.Each.{Each}
-use Rattle.problem_rules.specs.WellFormed.{IsInRange, IsBound}
-use Rattle.problem_rules.proofs.ItemLemmas.{Each-at}
+use Rattle.edit_rules.specs.number_sets.Sets.{has, IsRising, AreBelow}
+use Rattle.edit_rules.proofs.number_sets.Cited.{same_tests, has-listed, below_not_had}
+use Rattle.edit_rules.specs.problem_rules.Problem.{Problem, Material, Term, OperatingUnit}
+use Rattle.edit_rules.specs.problem_rules.Problem.{Exclusion}
+use Rattle.edit_rules.specs.problem_rules.Problem.{no_material, no_unit, no_exclusion, material_at}
+use Rattle.edit_rules.specs.problem_rules.Problem.{unit_at}
+use Rattle.edit_rules.specs.problem_rules.Problem.{exclusion_at, terms_have, numbers_of, rates_of}
+use Rattle.edit_rules.specs.problem_rules.Problem.{material_names, unit_names}
+use Rattle.edit_rules.specs.problem_rules.Each.{Each}
+use Rattle.edit_rules.specs.problem_rules.WellFormed.{IsInRange, IsBound}
+use Rattle.edit_rules.proofs.problem_rules.Cited.{Each-at}
 use Rattle.edit_rules.specs.Edit.{NamedTerm, Edit, price, bounds, kind, capacity, fix, proportional}
 use Rattle.edit_rules.specs.Edit.{rename_material, rename_unit, add_material, remove_material}
 use Rattle.edit_rules.specs.Edit.{add_unit, remove_unit, exclude, unexclude, investment, payout}

@@ -2,10 +2,11 @@
 -- numbers or names, are separated from their rates.
 use Rattle.std.specs.Prelude.{◌≡◌, ◌<◌, ◌≤◌, ◌==◌, ℕ, Bool, true, false, ◌||◌, List, [], ◌∷◌}
 use Rattle.std.specs.Prelude.{length, map, ℤ, pos, int_lt, unsigned_abs}
-use Rattle.problem_rules.specs.Problem.{Problem, Material, OperatingUnit, Exclusion, numbers_of}
-use Rattle.problem_rules.specs.Problem.{rates_of}
-use Rattle.problem_rules.specs.Each.{Each}
-use Rattle.problem_rules.specs.WellFormed.{IsInRange, IsBound}
+use Rattle.edit_rules.specs.problem_rules.Problem.{Problem, Material, OperatingUnit, Exclusion}
+use Rattle.edit_rules.specs.problem_rules.Problem.{numbers_of}
+use Rattle.edit_rules.specs.problem_rules.Problem.{rates_of}
+use Rattle.edit_rules.specs.problem_rules.Each.{Each}
+use Rattle.edit_rules.specs.problem_rules.WellFormed.{IsInRange, IsBound}
 use Rattle.edit_rules.specs.Edit.{NamedTerm}
 use Rattle.edit_rules.specs.Formed.{IsName}
 use Rattle.edit_laws.proofs.Soundness.{IsSound}

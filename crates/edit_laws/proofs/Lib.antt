@@ -1,3 +1,4 @@
+pub mod Cited
 pub mod FormLemmas
 pub mod Goodness
 pub mod ListLemmas
@@ -18,3 +19,4 @@ mod TokensRead
 pub mod MigrationFlowLemmas
 pub mod MigrationFormLemmas
 pub mod MigrationUnitLemmas
+pub use Rattle.edit_rules.proofs.problem_rules as problem_rules

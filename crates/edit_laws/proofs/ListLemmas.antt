@@ -4,7 +4,7 @@ use Rattle.std.proofs.Common.{◌≡◌, ℕ, zero, suc, ◌<◌, ◌≤◌, Boo
 use Rattle.std.proofs.Common.{get_or, set, refl, ap, arith}
 use Rattle.std.specs.List.{insert, remove, list_any}
 use Rattle.std.proofs.lemmas.Bool.{or_parts, or_from}
-use Rattle.problem_rules.specs.Each.{Each}
+use Rattle.edit_rules.specs.problem_rules.Each.{Each}
 
 pub remove-insert : {X : Type 0} (xs : List X) (k : ℕ) (x : X) → k ≤ length xs
     → remove (insert xs k x) k ≡ xs

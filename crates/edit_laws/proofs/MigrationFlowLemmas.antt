@@ -2,16 +2,18 @@
 use Rattle.std.proofs.Common.{◌≡◌, ◌*ℤ◌, ◌+ℤ◌, ◌-ℤ◌, ℕ, zero, suc, Bool, List, [], ◌∷◌, length, map}
 use Rattle.std.proofs.Common.{get_or, ℤ, pos, refl, sym, ap, ◌∙◌, subst, arith}
 use Rattle.std.proofs.lemmas.List.{length-map}
-use Rattle.integer_laws.specs.Total.{total_below}
-use Rattle.integer_laws.proofs.Ring.{ring_z, mul-zero_z, one-mul_z, mul_assoc_z, mul-add_z}
-use Rattle.integer_laws.proofs.Ring.{mul-sub_z}
-use Rattle.integer_laws.proofs.Totals.{total-mul, total-same}
-use Rattle.integer_laws.proofs.IndexTotals.{total_below-same, total_below-mul}
-use Rattle.problem_rules.specs.Problem.{Problem, OperatingUnit, material_at, unit_at, exclusion_at}
-use Rattle.problem_rules.specs.Problem.{no_unit, rate_of, rate_in, terms_have, is_raw_material}
-use Rattle.problem_rules.specs.Problem.{is_product}
-use Rattle.problem_rules.specs.Each.{Each}
-use Rattle.number_sets.specs.Sets.{has}
+use Rattle.flow_rules.specs.integer_laws.Total.{total_below}
+use Rattle.flow_rules.proofs.integer_laws.Cited.{ring_z, mul-zero_z, one-mul_z, mul_assoc_z}
+use Rattle.flow_rules.proofs.integer_laws.Cited.{mul-add_z}
+use Rattle.flow_rules.proofs.integer_laws.Cited.{mul-sub_z, total-mul, total-same, total_below-same}
+use Rattle.flow_rules.proofs.integer_laws.Cited.{total_below-mul}
+use Rattle.edit_rules.specs.problem_rules.Problem.{Problem, OperatingUnit, material_at, unit_at}
+use Rattle.edit_rules.specs.problem_rules.Problem.{exclusion_at}
+use Rattle.edit_rules.specs.problem_rules.Problem.{no_unit, rate_of, rate_in, terms_have}
+use Rattle.edit_rules.specs.problem_rules.Problem.{is_raw_material}
+use Rattle.edit_rules.specs.problem_rules.Problem.{is_product}
+use Rattle.edit_rules.specs.problem_rules.Each.{Each}
+use Rattle.edit_rules.specs.number_sets.Sets.{has}
 use Rattle.flow_rules.specs.Net.{Net, net_of, trillion, million, size_cost, units_of}
 use Rattle.flow_rules.specs.Flows.{IsFlows, cost}
 use Rattle.edit_laws.proofs.ListLemmas.{map-at}

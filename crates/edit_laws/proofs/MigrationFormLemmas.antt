@@ -4,13 +4,12 @@ use Rattle.std.proofs.Common.{List, [], ◌∷◌, length, ℤ, pos, negsuc, ref
 use Rattle.std.specs.Prelude.{flat_map, int_lt}
 use Rattle.std.specs.List.{position_from}
 use Rattle.std.proofs.lemmas.Bool.{or_parts, le-ltb}
-use Rattle.problem_rules.specs.Problem.{Problem, OperatingUnit}
-use Rattle.problem_rules.specs.Each.{Each}
-use Rattle.text_laws.proofs.Each.{each-append}
-use Rattle.problem_rules.specs.Validity.{IsValid, is_out_of_range}
-use Rattle.problem_rules.specs.WellFormed.{IsWellFormedUnit, IsInRange, IsBound}
-use Rattle.problem_rules.proofs.AmountLemmas.{in_range}
-use Rattle.problem_rules.proofs.ValidLemmas.{well_formed_from_valid}
+use Rattle.edit_rules.specs.problem_rules.Problem.{Problem, OperatingUnit}
+use Rattle.edit_rules.specs.problem_rules.Each.{Each}
+use Rattle.text_laws.proofs.Cited.{each-append}
+use Rattle.edit_rules.specs.problem_rules.Validity.{IsValid, is_out_of_range}
+use Rattle.edit_rules.specs.problem_rules.WellFormed.{IsWellFormedUnit, IsInRange, IsBound}
+use Rattle.edit_rules.proofs.problem_rules.Cited.{in_range, well_formed_from_valid}
 use Rattle.edit_rules.specs.Edit.{fix, proportional, investment}
 use Rattle.edit_rules.specs.Formed.{IsFormed, IsName, IsPayout}
 use Rattle.edit_rules.specs.Migration.{costs_nothing_yearly, migrates_out_of_range, out_of_range_at}

@@ -8,9 +8,9 @@ use Rattle.std.specs.Ordering.{int_eq}
 use Rattle.std.proofs.lemmas.List.{length-map, append_assoc}
 use Rattle.std.proofs.lemmas.Bool.{or_parts, and_parts, not-false, not_from_true}
 use Rattle.std.proofs.lemmas.Bool.Decides.{Decides-int_eq}
-use Rattle.integer_laws.proofs.Ring.{mul-zero_z}
-use Rattle.problem_rules.specs.Problem.{Problem, OperatingUnit, no_unit, unit_names}
-use Rattle.problem_rules.specs.Each.{Each}
+use Rattle.flow_rules.proofs.integer_laws.Cited.{mul-zero_z}
+use Rattle.edit_rules.specs.problem_rules.Problem.{Problem, OperatingUnit, no_unit, unit_names}
+use Rattle.edit_rules.specs.problem_rules.Each.{Each}
 use Rattle.edit_rules.specs.Edit.{fix, proportional, investment}
 use Rattle.edit_rules.specs.Effect.{with_unit}
 use Rattle.edit_rules.specs.Inverse.{costs_no_investment}

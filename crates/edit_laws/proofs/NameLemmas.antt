@@ -6,7 +6,7 @@ use Rattle.std.specs.Str.{bytes_eq}
 use Rattle.std.proofs.lemmas.Slice.Eq.{bytes_eq-Decides}
 use Rattle.std.proofs.lemmas.Bool.{or_parts, or_from, or_left, or_right, false≢true, both_ways}
 use Rattle.std.proofs.lemmas.Bool.{false_from_ne_true}
-use Rattle.problem_rules.specs.Names.{is_among, has_double}
+use Rattle.edit_rules.specs.problem_rules.Names.{is_among, has_double}
 use Rattle.edit_rules.specs.Place.{place_of}
 
 -- the words of the rules, with the name first

@@ -2,8 +2,8 @@
 use Rattle.std.proofs.Common.{◌≡◌, ℕ, ◌+◌, ◌<◌, ◌==◌, false, List, [], ◌∷◌, map, refl, arith}
 use Rattle.std.proofs.lemmas.Bool.{or_parts, or_from, ne_eqb, eqb-false}
 use Rattle.std.proofs.lemmas.Bool.Decides.{nat_tests}
-use Rattle.number_sets.specs.Sets.{has}
-use Rattle.problem_rules.specs.Problem.{Term, OperatingUnit, Exclusion, terms_have}
+use Rattle.edit_rules.specs.number_sets.Sets.{has}
+use Rattle.edit_rules.specs.problem_rules.Problem.{Term, OperatingUnit, Exclusion, terms_have}
 use Rattle.edit_rules.specs.Numbering.{up, down, in_term, in_unit, in_exclusion, unit_has}
 use Rattle.edit_rules.specs.Numbering.{any_unit_has, any_excludes}
 

@@ -1,10 +1,11 @@
 -- Worked edits of a small problem, by computation.
 use Rattle.std.proofs.Common.{◌≡◌, ℕ, List, [], ◌∷◌, ◌++◌, ℤ, pos, Some, None, true, refl}
 use Rattle.std.specs.Prelude.{codes}
-use Rattle.number_sets.specs.Sets.{listed}
-use Rattle.problem_rules.specs.Problem.{Problem, Kind, raw_material, intermediate, product}
-use Rattle.problem_rules.specs.Problem.{Material, Term, OperatingUnit}
-use Rattle.problem_rules.specs.Validity.{IsValid}
+use Rattle.edit_rules.specs.number_sets.Sets.{listed}
+use Rattle.edit_rules.specs.problem_rules.Problem.{Problem, Kind, raw_material, intermediate}
+use Rattle.edit_rules.specs.problem_rules.Problem.{product}
+use Rattle.edit_rules.specs.problem_rules.Problem.{Material, Term, OperatingUnit}
+use Rattle.edit_rules.specs.problem_rules.Validity.{IsValid}
 use Rattle.edit_rules.specs.Edit.{NamedTerm, Edit, bounds, kind, fix, proportional, rename_unit}
 use Rattle.edit_rules.specs.Edit.{add_material, remove_material, add_unit, remove_unit, exclude}
 use Rattle.edit_rules.specs.Edit.{unexclude, investment, payout}

@@ -1,6 +1,6 @@
 -- Whole scripts: the inverses lead back.
 use Rattle.std.proofs.Common.{◌≡◌, List, [], ◌∷◌, ◌++◌, refl, sym, ap, ◌∙◌, subst}
-use Rattle.problem_rules.specs.Problem.{Problem}
+use Rattle.edit_rules.specs.problem_rules.Problem.{Problem}
 use Rattle.edit_rules.specs.Edit.{Edit}
 use Rattle.edit_rules.specs.Effect.{effect}
 use Rattle.edit_rules.specs.Inverse.{inverse}

@@ -1,10 +1,9 @@
 -- Lines that are printed one after the other are read back.
 use Rattle.std.proofs.Common.{◌≡◌, ◌==◌, false, ℕ, List, map, flat_map, ◌∙◌, ap}
 use Rattle.std.specs.List.{list_any}
-use Rattle.problem_rules.specs.Each.{Each}
-use Rattle.text_rules.specs.Line.{without_return, without_empty_last, without_remark}
-use Rattle.text_laws.proofs.Each.{each-to, map_same}
-use Rattle.text_laws.proofs.PrintedLines.{split_lines, without_last, plain_kept}
+use Rattle.edit_rules.specs.problem_rules.Each.{Each}
+use Rattle.edit_rules.specs.text_rules.Line.{without_return, without_empty_last, without_remark}
+use Rattle.text_laws.proofs.Cited.{each-to, map_same, split_lines, without_last, plain_kept}
 use Rattle.edit_rules.specs.Line.{is_feed, script_lines}
 use Rattle.edit_rules.specs.Printed.{printed}
 

@@ -5,11 +5,12 @@ use Rattle.std.specs.List.{list_any}
 use Rattle.std.specs.Str.{bytes_eq}
 use Rattle.std.proofs.lemmas.List.{length-map}
 use Rattle.std.proofs.lemmas.Bool.{or_parts, or_from}
-use Rattle.problem_rules.specs.Problem.{Term, OperatingUnit, numbers_of, rates_of, terms_have}
-use Rattle.problem_rules.specs.Names.{is_among, has_double}
-use Rattle.problem_rules.specs.Each.{Each}
-use Rattle.problem_rules.specs.Validity.{repeats_material, shares_material}
-use Rattle.problem_rules.specs.WellFormed.{IsBound, IsWellFormedTerm, IsWellFormedUnit}
+use Rattle.edit_rules.specs.problem_rules.Problem.{Term, OperatingUnit, numbers_of, rates_of}
+use Rattle.edit_rules.specs.problem_rules.Problem.{terms_have}
+use Rattle.edit_rules.specs.problem_rules.Names.{is_among, has_double}
+use Rattle.edit_rules.specs.problem_rules.Each.{Each}
+use Rattle.edit_rules.specs.problem_rules.Validity.{repeats_material, shares_material}
+use Rattle.edit_rules.specs.problem_rules.WellFormed.{IsBound, IsWellFormedTerm, IsWellFormedUnit}
 use Rattle.edit_rules.specs.Edit.{NamedTerm}
 use Rattle.edit_rules.specs.Formed.{term_names, IsFormedTerm, AreFormedSides}
 use Rattle.edit_laws.proofs.Soundness.{IsSoundUnit, AreKnown}

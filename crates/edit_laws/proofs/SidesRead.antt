@@ -5,13 +5,14 @@ use Rattle.std.proofs.Common.{unsigned_abs, refl, sym, ◌∙◌, ap, arith, if�
 use Rattle.std.specs.List.{list_any}
 use Rattle.std.proofs.lemmas.Bool.{or_from, cond_both, ne_eqb, eqb-true, true≢false}
 use Rattle.std.proofs.lemmas.List.{length-map}
-use Rattle.problem_rules.specs.Each.{Each}
-use Rattle.problem_rules.specs.Names.{is_among, has_double}
-use Rattle.text_rules.specs.Fault.{millionths}
-use Rattle.text_rules.specs.Field.{terms_of}
-use Rattle.text_rules.specs.Printed.{amount_bytes}
-use Rattle.text_laws.proofs.Cuts.{split_at, split_none, joined_none, split_joined, joined_some}
-use Rattle.text_laws.proofs.Each.{each-append, each-to, none_from_each}
+use Rattle.edit_rules.specs.problem_rules.Each.{Each}
+use Rattle.edit_rules.specs.problem_rules.Names.{is_among, has_double}
+use Rattle.edit_rules.specs.text_rules.Fault.{millionths}
+use Rattle.edit_rules.specs.text_rules.Field.{terms_of}
+use Rattle.edit_rules.specs.text_rules.Printed.{amount_bytes}
+use Rattle.text_laws.proofs.Cited.{split_at, split_none, joined_none, split_joined, joined_some}
+use Rattle.text_laws.proofs.Cited.{each-append, each-to, none_from_each, IsWord, name_word}
+use Rattle.text_laws.proofs.Cited.{amount_word, is_plus, word_no_plus, word_no_arrow, terms_split}
 use Rattle.edit_rules.specs.Edit.{NamedTerm}
 use Rattle.edit_rules.specs.Formed.{IsFormedTerm, IsFormedSide, AreFormedSides, term_names}
 use Rattle.edit_rules.specs.declared.EditKind.{EditKind}
@@ -21,8 +22,6 @@ use Rattle.edit_rules.specs.Printed.{term_tokens, side_tokens}
 use Rattle.edit_rules.specs.Term.{Pair, pair_of, with_pair, pairs_of, both, both_sides, is_arrow}
 use Rattle.edit_rules.specs.Term.{sides_of, term_fault, terms_fault, materials_of, are_bad_sides}
 use Rattle.edit_rules.specs.Term.{sides_fault, term_read}
-use Rattle.text_laws.proofs.Words.{IsWord, name_word, amount_word, is_plus, word_no_plus}
-use Rattle.text_laws.proofs.Words.{word_no_arrow, terms_split}
 use Rattle.edit_laws.proofs.Tokens.{IsToken, word_token}
 use Rattle.edit_laws.proofs.TokensRead.{name_none, rate_none, millionths_back, unless_true}
 

@@ -9,14 +9,17 @@ use Rattle.std.proofs.lemmas.List.Edits.{length-remove, length-insert}
 use Rattle.std.proofs.lemmas.Bool.{or_parts, or_left, or_right, or_cases, not-false, ltb-false}
 use Rattle.std.proofs.lemmas.Bool.{leb-false, eqb-false, false≢true}
 use Rattle.std.proofs.lemmas.Bool.Decides.{nat_tests}
-use Rattle.number_sets.specs.Sets.{has, IsBelowAll, IsRising, AreBelow}
-use Rattle.number_sets.proofs.SetLemmas.{IsRising-listed, AreBelow-listed}
-use Rattle.problem_rules.specs.Problem.{Problem, Material, Term, OperatingUnit, Exclusion}
-use Rattle.problem_rules.specs.Problem.{no_material, no_unit, material_at, unit_at, is_product}
-use Rattle.problem_rules.specs.Problem.{terms_have, material_names, unit_names, exclusion_names}
-use Rattle.problem_rules.specs.Each.{Each}
-use Rattle.problem_rules.specs.Validity.{has_product}
-use Rattle.problem_rules.proofs.ItemLemmas.{Each-at}
+use Rattle.edit_rules.specs.number_sets.Sets.{has, IsBelowAll, IsRising, AreBelow}
+use Rattle.edit_rules.proofs.number_sets.Cited.{IsRising-listed, AreBelow-listed}
+use Rattle.edit_rules.specs.problem_rules.Problem.{Problem, Material, Term, OperatingUnit}
+use Rattle.edit_rules.specs.problem_rules.Problem.{Exclusion}
+use Rattle.edit_rules.specs.problem_rules.Problem.{no_material, no_unit, material_at, unit_at}
+use Rattle.edit_rules.specs.problem_rules.Problem.{is_product}
+use Rattle.edit_rules.specs.problem_rules.Problem.{terms_have, material_names, unit_names}
+use Rattle.edit_rules.specs.problem_rules.Problem.{exclusion_names}
+use Rattle.edit_rules.specs.problem_rules.Each.{Each}
+use Rattle.edit_rules.specs.problem_rules.Validity.{has_product}
+use Rattle.edit_rules.proofs.problem_rules.Cited.{Each-at}
 use Rattle.edit_rules.specs.Edit.{NamedTerm, Edit, price, bounds, kind, capacity, fix, proportional}
 use Rattle.edit_rules.specs.Edit.{rename_material, rename_unit, add_material, remove_material}
 use Rattle.edit_rules.specs.Edit.{add_unit, remove_unit, exclude, unexclude, investment, payout}

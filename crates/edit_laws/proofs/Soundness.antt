@@ -1,10 +1,11 @@
 -- The part of a problem's validity that its edits need: what depends on neighbours and on counts.
 use Rattle.std.specs.Prelude.{◌≡◌, ℕ, ◌<◌, ◌≤◌, true, false, List, length, int_lt}
-use Rattle.number_sets.specs.Sets.{IsRising, AreBelow}
-use Rattle.problem_rules.specs.Problem.{Problem, Material, Term, OperatingUnit, Exclusion}
-use Rattle.problem_rules.specs.Problem.{material_names, unit_names, exclusion_names}
-use Rattle.problem_rules.specs.Each.{Each}
-use Rattle.problem_rules.specs.Validity.{has_product}
+use Rattle.edit_rules.specs.number_sets.Sets.{IsRising, AreBelow}
+use Rattle.edit_rules.specs.problem_rules.Problem.{Problem, Material, Term, OperatingUnit}
+use Rattle.edit_rules.specs.problem_rules.Problem.{Exclusion}
+use Rattle.edit_rules.specs.problem_rules.Problem.{material_names, unit_names, exclusion_names}
+use Rattle.edit_rules.specs.problem_rules.Each.{Each}
+use Rattle.edit_rules.specs.problem_rules.Validity.{has_product}
 use Rattle.edit_laws.proofs.NameLemmas.{AreApart}
 
 abbrev pub AreKnown : ℕ → List Term → Type 0

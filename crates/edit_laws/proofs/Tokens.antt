@@ -4,14 +4,11 @@ use Rattle.std.specs.List.{list_all, list_any}
 use Rattle.std.specs.Char.{is_ascii_digit}
 use Rattle.std.proofs.lemmas.Bool.{or_left}
 use Rattle.std.proofs.lemmas.Fmt.{decimal_nonempty}
-use Rattle.problem_rules.specs.Each.{Each}
-use Rattle.problem_rules.specs.Names.{continues_name}
-use Rattle.text_rules.specs.Canonical.{joined}
-use Rattle.text_laws.proofs.Cuts.{not_mark, none_from_all, joined_none}
-use Rattle.text_laws.proofs.Digits.{decimal_reads}
-use Rattle.text_laws.proofs.Each.{each-to}
-use Rattle.text_laws.proofs.PrintedAmount.{all_to}
-use Rattle.text_laws.proofs.Words.{IsWord, digit_continues}
+use Rattle.edit_rules.specs.problem_rules.Each.{Each}
+use Rattle.edit_rules.specs.problem_rules.Names.{continues_name}
+use Rattle.edit_rules.specs.text_rules.Canonical.{joined}
+use Rattle.text_laws.proofs.Cited.{not_mark, none_from_all, joined_none, decimal_reads, each-to}
+use Rattle.text_laws.proofs.Cited.{all_to, IsWord, digit_continues}
 
 -- the bytes of tokens: those of names and numbers, and `:`, `+`, `=`, `>`
 abbrev pub is_token_byte : ℕ → Bool

@@ -6,24 +6,24 @@ use Rattle.std.proofs.Common.{if◌then◌else◌}
 use Rattle.std.specs.Result.{result_unwrap_or}
 use Rattle.std.proofs.lemmas.Bool.{cond-true, and_from, true≢false}
 use Rattle.std.proofs.lemmas.Fmt.{decimal_nonempty}
-use Rattle.problem_rules.specs.Each.{Each}
-use Rattle.problem_rules.specs.Names.{is_name}
-use Rattle.problem_rules.specs.Problem.{Kind, raw_material, intermediate, product}
-use Rattle.problem_rules.specs.WellFormed.{IsInRange, IsBound}
-use Rattle.text_rules.specs.declared.TextKind.{TextKind}
-use Rattle.text_rules.specs.Amount.{number_of, amount_of}
-use Rattle.text_rules.specs.Fault.{millionths}
-use Rattle.text_rules.specs.Printed.{amount_bytes}
-use Rattle.text_rules.specs.Canonical.{kind_word}
-use Rattle.text_rules.specs.Value.{kind_of}
-use Rattle.text_laws.proofs.Digits.{decimal_reads, decimal_whole}
-use Rattle.text_laws.proofs.PrintedAmount.{amounts_read_back}
-use Rattle.text_laws.proofs.Words.{name_word, amount_word}
+use Rattle.edit_rules.specs.problem_rules.Each.{Each}
+use Rattle.edit_rules.specs.problem_rules.Names.{is_name}
+use Rattle.edit_rules.specs.problem_rules.Problem.{Kind, raw_material, intermediate, product}
+use Rattle.edit_rules.specs.problem_rules.WellFormed.{IsInRange, IsBound}
+use Rattle.edit_rules.specs.text_rules.declared.TextKind.{TextKind}
+use Rattle.edit_rules.specs.text_rules.Amount.{number_of, amount_of}
+use Rattle.edit_rules.specs.text_rules.Fault.{millionths}
+use Rattle.edit_rules.specs.text_rules.Printed.{amount_bytes}
+use Rattle.edit_rules.specs.text_rules.Canonical.{kind_word}
+use Rattle.edit_rules.specs.text_rules.Value.{kind_of}
+use Rattle.text_laws.proofs.Cited.{decimal_reads, decimal_whole, amounts_read_back, name_word}
+use Rattle.text_laws.proofs.Cited.{amount_word}
 use Rattle.edit_rules.specs.Formed.{IsName, IsPlace}
 use Rattle.edit_rules.specs.declared.EditKind.{EditKind}
 use Rattle.edit_rules.specs.declared.EditKind.TheVariants as kinds
 use Rattle.edit_rules.specs.ScriptFault.{least, lesser, some_token, unless, name_fault, kind_fault}
-use Rattle.edit_rules.specs.ScriptFault.{amount_fault, bound_fault, rate_fault, any_sign, not_negative}
+use Rattle.edit_rules.specs.ScriptFault.{amount_fault, bound_fault, rate_fault, any_sign}
+use Rattle.edit_rules.specs.ScriptFault.{not_negative}
 use Rattle.edit_rules.specs.ScriptFault.{positive, is_whole, whole_within, place_of, place_fault}
 use Rattle.edit_rules.specs.ScriptFault.{years_of, years_fault, names_fault}
 

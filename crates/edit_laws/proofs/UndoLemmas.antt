@@ -8,13 +8,16 @@ use Rattle.std.specs.List.{insert, remove}
 use Rattle.std.proofs.lemmas.Bool.{eqb-true, or_from, and_parts, not-false, not_from_true, le-ltb}
 use Rattle.std.proofs.lemmas.Bool.{ltb-false, lt-leb}
 use Rattle.std.proofs.lemmas.List.Edits.{length-remove}
-use Rattle.number_sets.specs.Sets.{has, listed, IsRising, AreBelow}
-use Rattle.number_sets.proofs.SetLemmas.{listed-is}
-use Rattle.problem_rules.specs.Problem.{Problem, Material, Term, OperatingUnit, Exclusion}
-use Rattle.problem_rules.specs.Problem.{no_material, no_unit, no_exclusion, material_at, unit_at}
-use Rattle.problem_rules.specs.Problem.{exclusion_at, material_names, unit_names, exclusion_names}
-use Rattle.problem_rules.specs.Validity.{has_product}
-use Rattle.problem_rules.proofs.ItemLemmas.{Each-at}
+use Rattle.edit_rules.specs.number_sets.Sets.{has, listed, IsRising, AreBelow}
+use Rattle.edit_rules.proofs.number_sets.Cited.{listed-is}
+use Rattle.edit_rules.specs.problem_rules.Problem.{Problem, Material, Term, OperatingUnit}
+use Rattle.edit_rules.specs.problem_rules.Problem.{Exclusion}
+use Rattle.edit_rules.specs.problem_rules.Problem.{no_material, no_unit, no_exclusion, material_at}
+use Rattle.edit_rules.specs.problem_rules.Problem.{unit_at}
+use Rattle.edit_rules.specs.problem_rules.Problem.{exclusion_at, material_names, unit_names}
+use Rattle.edit_rules.specs.problem_rules.Problem.{exclusion_names}
+use Rattle.edit_rules.specs.problem_rules.Validity.{has_product}
+use Rattle.edit_rules.proofs.problem_rules.Cited.{Each-at}
 use Rattle.edit_rules.specs.Edit.{Edit, price, bounds, kind, capacity, fix, proportional}
 use Rattle.edit_rules.specs.Edit.{rename_material, rename_unit, add_material, remove_material}
 use Rattle.edit_rules.specs.Edit.{add_unit, remove_unit, exclude, unexclude, investment, payout}

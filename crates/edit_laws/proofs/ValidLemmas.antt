@@ -1,15 +1,16 @@
 -- Valid problems are sound and good, and stay so.
 use Rattle.std.proofs.Common.{◌≡◌, ℕ, ◌+◌, ◌≤◌, List, [], ◌∷◌, length, arith}
 use Rattle.std.specs.Prelude.{int_lt, false}
-use Rattle.number_sets.specs.Sets.{IsBelowAll, IsRising, AreBelow}
-use Rattle.problem_rules.specs.Problem.{Problem, Material, material_names, unit_names}
-use Rattle.problem_rules.specs.Problem.{exclusion_names}
-use Rattle.problem_rules.specs.Each.{Each}
-use Rattle.text_laws.proofs.Each.{each-append}
-use Rattle.problem_rules.specs.Validity.{IsValid}
-use Rattle.problem_rules.specs.WellFormed.{IsWellFormedMaterial, IsWellFormedUnit}
-use Rattle.problem_rules.specs.WellFormed.{IsWellFormedExclusion, IsWellFormed, AreRisingFrom}
-use Rattle.problem_rules.proofs.ValidLemmas.{well_formed_from_valid, valid_from_well_formed}
+use Rattle.edit_rules.specs.number_sets.Sets.{IsBelowAll, IsRising, AreBelow}
+use Rattle.edit_rules.specs.problem_rules.Problem.{Problem, Material, material_names, unit_names}
+use Rattle.edit_rules.specs.problem_rules.Problem.{exclusion_names}
+use Rattle.edit_rules.specs.problem_rules.Each.{Each}
+use Rattle.text_laws.proofs.Cited.{each-append}
+use Rattle.edit_rules.specs.problem_rules.Validity.{IsValid}
+use Rattle.edit_rules.specs.problem_rules.WellFormed.{IsWellFormedMaterial, IsWellFormedUnit}
+use Rattle.edit_rules.specs.problem_rules.WellFormed.{IsWellFormedExclusion, IsWellFormed}
+use Rattle.edit_rules.specs.problem_rules.WellFormed.{AreRisingFrom}
+use Rattle.edit_rules.proofs.problem_rules.Cited.{well_formed_from_valid, valid_from_well_formed}
 use Rattle.edit_rules.specs.Edit.{Edit}
 use Rattle.edit_rules.specs.Effect.{effect}
 use Rattle.edit_rules.specs.Fault.{checks, AreClear}

@@ -1,8 +1,8 @@
 -- The laws of edits. Each is the contract of a public function of this crate.
 use Rattle.std.specs.Prelude.{List}
-use Rattle.problem_rules.specs.Problem.{Problem}
-use Rattle.problem_rules.specs.Each.{Each}
-use Rattle.problem_rules.specs.Validity.{IsValid}
+use Rattle.edit_rules.specs.problem_rules.Problem.{Problem}
+use Rattle.edit_rules.specs.problem_rules.Each.{Each}
+use Rattle.edit_rules.specs.problem_rules.Validity.{IsValid}
 use Rattle.edit_rules.specs.Edit.{Edit}
 use Rattle.edit_rules.specs.Effect.{effect}
 use Rattle.edit_rules.specs.Fault.{checks, AreClear}

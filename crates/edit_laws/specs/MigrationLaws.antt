@@ -2,9 +2,9 @@
 -- function of this crate. The laws on problems that take a migration are of valid problems with a
 -- payout period of 1 year and no investment costs.
 use Rattle.std.specs.Prelude.{◌≡◌, ◌↔◌, ◌*ℤ◌, ℕ, Bool, false, None, ℤ}
-use Rattle.problem_rules.specs.Problem.{Problem}
-use Rattle.problem_rules.specs.Each.{Each}
-use Rattle.problem_rules.specs.Validity.{IsValid}
+use Rattle.edit_rules.specs.problem_rules.Problem.{Problem}
+use Rattle.edit_rules.specs.problem_rules.Each.{Each}
+use Rattle.edit_rules.specs.problem_rules.Validity.{IsValid}
 use Rattle.edit_rules.specs.Formed.{IsFormed, IsPayout}
 use Rattle.edit_rules.specs.Migration.{has_payout, out_of_range_at, migration}
 use Rattle.edit_rules.specs.Script.{applied, CanApply}

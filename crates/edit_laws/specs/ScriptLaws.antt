@@ -1,6 +1,6 @@
 -- The law of scripts, which is the contract of a public function of this crate.
 use Rattle.std.specs.Prelude.{◌≡◌, List, Ok}
-use Rattle.problem_rules.specs.Each.{Each}
+use Rattle.edit_rules.specs.problem_rules.Each.{Each}
 use Rattle.edit_rules.specs.Edit.{Edit}
 use Rattle.edit_rules.specs.Formed.{IsFormed, script_of}
 use Rattle.edit_rules.specs.Printed.{script_text}

@@ -2,8 +2,8 @@
 -- spellings.
 use Rattle.std.proofs.Common.{◌≡◌, ◌++◌, ℕ, List, [], ◌∷◌, codes, refl, Ok, pos, negsuc}
 use Rattle.std.specs.Fmt.{digits}
-use Rattle.problem_rules.specs.Problem.{raw_material, product}
-use Rattle.problem_rules.specs.Problem as problem
+use Rattle.text_rules.specs.problem_rules.Problem.{raw_material, product}
+use Rattle.text_rules.specs.problem_rules.Problem as problem
 use Rattle.edit_rules.specs.Edit.{Edit, price, bounds, kind, capacity, fix, proportional}
 use Rattle.edit_rules.specs.Edit.{rename_material, rename_unit, add_material, remove_material}
 use Rattle.edit_rules.specs.Edit.{add_unit, remove_unit, exclude, unexclude, investment, payout}

@@ -2,7 +2,7 @@
 -- Prices, bounds, costs and rates are whole millionths, and the payout period is whole years.
 -- Places count from 0.
 use Rattle.std.specs.Prelude.{ℕ, ℤ, List}
-use Rattle.problem_rules.specs.Problem.{Kind}
+use Rattle.text_rules.specs.problem_rules.Problem.{Kind}
 
 -- a material, by its name, with the rate at which a unit uses or makes it
 pub record NamedTerm : Type 0 where

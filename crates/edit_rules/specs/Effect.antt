@@ -1,7 +1,8 @@
 -- The problem after an edit.
 use Rattle.std.specs.Prelude.{ℕ, ℤ, List, map, slice_set, pos}
 use Rattle.std.specs.List.{insert, remove}
-use Rattle.problem_rules.specs.Problem.{Problem, Material, OperatingUnit, material_at, unit_at}
+use Rattle.text_rules.specs.problem_rules.Problem.{Problem, Material, OperatingUnit, material_at}
+use Rattle.text_rules.specs.problem_rules.Problem.{unit_at}
 use Rattle.edit_rules.specs.Edit.{Edit, NamedTerm, price, bounds, kind, capacity, fix, proportional}
 use Rattle.edit_rules.specs.Edit.{rename_material, rename_unit, add_material, remove_material}
 use Rattle.edit_rules.specs.Edit.{add_unit, remove_unit, exclude, unexclude, investment, payout}

@@ -3,8 +3,8 @@
 use Rattle.std.specs.Prelude.{◌≡◌, nat_lt, nat_le, Bool, false, cond, not, ◌||◌, Option, Some, None}
 use Rattle.std.specs.Prelude.{List, [], ◌∷◌, length, int_lt}
 use Rattle.std.specs.List.{remove}
-use Rattle.problem_rules.specs.Problem.{Problem}
-use Rattle.problem_rules.specs.Validity.{has_product}
+use Rattle.text_rules.specs.problem_rules.Problem.{Problem}
+use Rattle.text_rules.specs.problem_rules.Validity.{has_product}
 use Rattle.edit_rules.specs.Edit.{Edit, price, bounds, kind, capacity, fix, proportional}
 use Rattle.edit_rules.specs.Edit.{rename_material, rename_unit, add_material, remove_material}
 use Rattle.edit_rules.specs.Edit.{add_unit, remove_unit, exclude, unexclude, investment, payout}

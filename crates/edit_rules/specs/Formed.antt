@@ -5,9 +5,9 @@
 use Rattle.std.specs.Prelude.{◌≡◌, ◌<◌, ◌≤◌, ◌+◌, ◌^◌, ℕ, true, false, List, [], ◌∷◌, length, map}
 use Rattle.std.specs.Prelude.{ℤ, pos, int_lt, unsigned_abs}
 use Rattle.std.specs.List.{list_any}
-use Rattle.problem_rules.specs.Each.{Each}
-use Rattle.problem_rules.specs.Names.{is_name, is_among, has_double}
-use Rattle.problem_rules.specs.WellFormed.{IsInRange, IsBound}
+use Rattle.text_rules.specs.problem_rules.Each.{Each}
+use Rattle.text_rules.specs.problem_rules.Names.{is_name, is_among, has_double}
+use Rattle.text_rules.specs.problem_rules.WellFormed.{IsInRange, IsBound}
 use Rattle.edit_rules.specs.Edit.{NamedTerm, Edit, price, bounds, kind, capacity, fix, proportional}
 use Rattle.edit_rules.specs.Edit.{rename_material, rename_unit, add_material, remove_material}
 use Rattle.edit_rules.specs.Edit.{add_unit, remove_unit, exclude, unexclude, investment, payout}

@@ -1,6 +1,7 @@
 -- The edits that lead from the problem after an edit back to the problem before it.
 use Rattle.std.specs.Prelude.{ℕ, Bool, cond, ◌&&◌, ◌==◌, List, [], ◌∷◌, unsigned_abs}
-use Rattle.problem_rules.specs.Problem.{Problem, OperatingUnit, material_at, unit_at, exclusion_at}
+use Rattle.text_rules.specs.problem_rules.Problem.{Problem, OperatingUnit, material_at, unit_at}
+use Rattle.text_rules.specs.problem_rules.Problem.{exclusion_at}
 use Rattle.edit_rules.specs.Edit.{Edit, price, bounds, kind, capacity, fix, proportional}
 use Rattle.edit_rules.specs.Edit.{rename_material, rename_unit, add_material, remove_material}
 use Rattle.edit_rules.specs.Edit.{add_unit, remove_unit, exclude, unexclude, investment, payout}

@@ -13,3 +13,6 @@ pub mod Read
 pub mod Script
 pub mod ScriptFault
 pub mod Term
+pub use Rattle.number_sets.specs as number_sets
+pub use Rattle.text_rules.specs.problem_rules as problem_rules
+pub use Rattle.text_rules.specs as text_rules

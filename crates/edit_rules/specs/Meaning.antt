@@ -1,6 +1,6 @@
 -- The kinds of faults of meaning, and the first fault of meaning of a script.
 use Rattle.std.specs.Prelude.{◌≡◌, ℕ}
-use Rattle.problem_rules.specs.Problem.{Problem}
+use Rattle.text_rules.specs.problem_rules.Problem.{Problem}
 use Rattle.edit_rules.specs.Edit.{Script}
 use Rattle.edit_rules.specs.Fault.{Fault, unknown_name, double_name, bad_place, low_above_high}
 use Rattle.edit_rules.specs.Fault.{in_use, no_product, too_many}

@@ -4,8 +4,8 @@ use Rattle.std.specs.Prelude.{◌≡◌, ◌*ℤ◌, ℕ, ◌<◌, ◌==◌, Boo
 use Rattle.std.specs.Prelude.{List, [], ◌∷◌, length, flat_map, Option, ℤ, pos, unsigned_abs}
 use Rattle.std.specs.List.{list_any, position_from}
 use Rattle.std.specs.Ordering.{int_eq}
-use Rattle.problem_rules.specs.Problem.{Problem, OperatingUnit}
-use Rattle.problem_rules.specs.Validity.{is_out_of_range}
+use Rattle.text_rules.specs.problem_rules.Problem.{Problem, OperatingUnit}
+use Rattle.text_rules.specs.problem_rules.Validity.{is_out_of_range}
 use Rattle.edit_rules.specs.Edit.{Edit, fix, proportional, investment, payout}
 use Rattle.edit_rules.specs.Inverse.{costs_no_investment}
 

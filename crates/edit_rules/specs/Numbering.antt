@@ -3,7 +3,7 @@
 use Rattle.std.specs.Prelude.{ℕ, suc, pred, nat_lt, Bool, cond, ◌||◌, List, map}
 use Rattle.std.specs.List.{list_any}
 use Rattle.number_sets.specs.Sets.{has}
-use Rattle.problem_rules.specs.Problem.{Term, OperatingUnit, Exclusion, terms_have}
+use Rattle.text_rules.specs.problem_rules.Problem.{Term, OperatingUnit, Exclusion, terms_have}
 
 -- the new number of item x, after an item was inserted at place k
 abbrev pub up : ℕ → ℕ → ℕ

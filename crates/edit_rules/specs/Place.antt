@@ -4,9 +4,10 @@ use Rattle.std.specs.Prelude.{ℕ, Bool, not, List, map, length}
 use Rattle.std.specs.List.{list_any, position_or_len}
 use Rattle.std.specs.Str.{bytes_eq}
 use Rattle.number_sets.specs.Sets.{has, listed}
-use Rattle.problem_rules.specs.Problem.{Problem, Term, material_names, unit_names, exclusion_names}
-use Rattle.problem_rules.specs.Problem.{material_at, unit_at}
-use Rattle.problem_rules.specs.Names.{is_among}
+use Rattle.text_rules.specs.problem_rules.Problem.{Problem, Term, material_names, unit_names}
+use Rattle.text_rules.specs.problem_rules.Problem.{exclusion_names}
+use Rattle.text_rules.specs.problem_rules.Problem.{material_at, unit_at}
+use Rattle.text_rules.specs.problem_rules.Names.{is_among}
 use Rattle.edit_rules.specs.Edit.{NamedTerm}
 
 abbrev pub place_of : List (List ℕ) → List ℕ → ℕ

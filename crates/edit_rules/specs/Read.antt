@@ -8,7 +8,7 @@ use Rattle.edit_rules.specs.Edit.{Edit, price, bounds, kind, capacity, fix, prop
 use Rattle.edit_rules.specs.Edit.{rename_material, rename_unit, add_material, remove_material}
 use Rattle.edit_rules.specs.Edit.{add_unit, remove_unit, exclude, unexclude, investment, payout}
 use Rattle.edit_rules.specs.Edit.{Script}
-use Rattle.problem_rules.specs.Problem.{Kind}
+use Rattle.text_rules.specs.problem_rules.Problem.{Kind}
 use Rattle.text_rules.specs.Fault.{millionths}
 use Rattle.text_rules.specs.Value.{kind_of}
 use Rattle.edit_rules.specs.declared.EditKind.{EditKind}

@@ -1,6 +1,6 @@
 -- Scripts: edits that are applied one after another, each on a line of a text.
 use Rattle.std.specs.Prelude.{◌≡◌, ℕ, zero, suc, List, [], ◌∷◌, ◌++◌, Some, slice_index_or}
-use Rattle.problem_rules.specs.Problem.{Problem}
+use Rattle.text_rules.specs.problem_rules.Problem.{Problem}
 use Rattle.edit_rules.specs.Edit.{Edit, Script}
 use Rattle.edit_rules.specs.Effect.{effect}
 use Rattle.edit_rules.specs.Fault.{Fault, checks, fault_of, AreClear}

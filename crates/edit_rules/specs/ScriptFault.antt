@@ -6,7 +6,7 @@ use Rattle.std.specs.Prelude.{int_lt, slice_index, if◌then◌else◌}
 use Rattle.std.specs.List.{list_all}
 use Rattle.std.specs.Str.{byte}
 use Rattle.std.specs.Char.{is_ascii_digit}
-use Rattle.problem_rules.specs.Names.{is_name, is_among, has_double}
+use Rattle.text_rules.specs.problem_rules.Names.{is_name, is_among, has_double}
 use Rattle.text_rules.specs.declared.TextKind.{TextKind}
 use Rattle.text_rules.specs.declared.TextKind.TheVariants as texts
 use Rattle.text_rules.specs.Amount.{number_of, amount_of}

@@ -5,7 +5,7 @@ use Rattle.std.specs.Prelude.{◌==◌, ◌||◌, ℕ, Bool, not, List, [], ◌�
 use Rattle.std.specs.Prelude.{Some, None}
 use Rattle.std.specs.List.{list_any, slice_split}
 use Rattle.std.specs.Str.{bytes_eq}
-use Rattle.problem_rules.specs.Names.{is_among, has_double}
+use Rattle.text_rules.specs.problem_rules.Names.{is_among, has_double}
 use Rattle.edit_rules.specs.Edit.{NamedTerm}
 use Rattle.text_rules.specs.Fault.{millionths}
 use Rattle.text_rules.specs.Field.{terms_of}

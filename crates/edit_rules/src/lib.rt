@@ -15,6 +15,8 @@
 //! computation.
 #![tactic(auto)]
 
+pub use text_rules::{Section, TextKind, valid_is_well_formed};
+
 /// A kind of fault of an edit script. The variants are in the order of their numbers, 1 to 16.
 /// First the whole script is searched for faults of form, 1 to 8 and 16; faults of meaning are
 /// found as the script is applied. Of the faults at one line the one with the least number of its

@@ -5,15 +5,15 @@ use Rattle.std.proofs.Common.{if◌then◌else◌, ℤ, refl, sym, ap, ◌∙◌
 use Rattle.std.specs.List.{list_any}
 use Rattle.std.specs.Borrow.{Bor}
 use Rattle.std.proofs.lemmas.List.{map-append, take_all}
-use Rattle.problem_rules.specs.Names.{is_among, has_double}
-use Rattle.edit_rules.specs.Edit.{NamedTerm}
-use Rattle.text_rules.specs.Fault.{millionths}
+use Rattle.text_lines.specs.problem_rules.Names.{is_among, has_double}
+use Rattle.text_lines.specs.edit_rules.Edit.{NamedTerm}
+use Rattle.text_lines.specs.text_rules.Fault.{millionths}
 use Rattle.text_lines.specs.View.{texts}
 use Rattle.text_lines.specs.Once.{once}
 use Rattle.text_lines.specs.Terms.{term_view, terms_view}
 use Rattle.text_lines.specs.declared.term.Term.{Term}
-use Rattle.text_lines.proofs.Maps.{maps_more}
-use Rattle.edit_rules.specs.Term.{Pair, materials_of, are_bad_sides, term_read}
+use Rattle.text_lines.proofs.Cited.{maps_more}
+use Rattle.text_lines.specs.edit_rules.Term.{Pair, materials_of, are_bad_sides, term_read}
 
 -- one material more
 pub listed : (terms : List Term) (i : ℕ) (d : Term) (old new : List (Bor (List ℕ)))

@@ -5,22 +5,25 @@ use Rattle.std.proofs.Common.{Result, Ok, Err, ℤ, pos, int_lt, unsigned_abs, r
 use Rattle.std.proofs.Common.{unwrap_or, if◌then◌else◌}
 use Rattle.std.specs.Result.{result_unwrap_or}
 use Rattle.std.proofs.lemmas.Bool.{cond_both, and_parts, leb-true, ltb-false, lt-ltb}
-use Rattle.problem_rules.specs.Each.{Each}
-use Rattle.problem_rules.specs.Names.{is_name}
-use Rattle.problem_rules.specs.WellFormed.{IsInRange, IsBound}
-use Rattle.text_rules.specs.declared.TextKind.{TextKind}
-use Rattle.text_rules.specs.declared.TextKind.TheVariants.{BadNumber, TooFine, TooLarge}
-use Rattle.text_rules.specs.Amount.{mantissa, is_number, has_minus, number_of, tens_for}
-use Rattle.text_rules.specs.Amount.{tens_against, amount_limit, signed, scaled, with_sign}
-use Rattle.text_rules.specs.Amount.{amount_of}
-use Rattle.text_rules.specs.Fault.{millionths}
-use Rattle.edit_rules.specs.Formed.{IsName, IsPlace, IsPayout}
-use Rattle.edit_rules.specs.declared.EditKind.{EditKind}
-use Rattle.edit_rules.specs.declared.EditKind.TheVariants as kinds
-use Rattle.edit_rules.specs.ScriptFault.{lesser, least, some_token, unless, name_fault, bound_fault}
-use Rattle.edit_rules.specs.ScriptFault.{rate_fault, not_negative, positive, is_whole, whole_within}
-use Rattle.edit_rules.specs.ScriptFault.{place_of, years_of, years_fault, names_fault}
-use Rattle.edit_rules.specs.Read.{told, judged}
+use Rattle.text_lines.specs.problem_rules.Each.{Each}
+use Rattle.text_lines.specs.problem_rules.Names.{is_name}
+use Rattle.text_lines.specs.problem_rules.WellFormed.{IsInRange, IsBound}
+use Rattle.text_lines.specs.text_rules.declared.TextKind.{TextKind}
+use Rattle.text_lines.specs.text_rules.declared.TextKind.TheVariants.{BadNumber, TooFine, TooLarge}
+use Rattle.text_lines.specs.text_rules.Amount.{mantissa, is_number, has_minus, number_of, tens_for}
+use Rattle.text_lines.specs.text_rules.Amount.{tens_against, amount_limit, signed, scaled}
+use Rattle.text_lines.specs.text_rules.Amount.{with_sign}
+use Rattle.text_lines.specs.text_rules.Amount.{amount_of}
+use Rattle.text_lines.specs.text_rules.Fault.{millionths}
+use Rattle.text_lines.specs.edit_rules.Formed.{IsName, IsPlace, IsPayout}
+use Rattle.text_lines.specs.edit_rules.declared.EditKind.{EditKind}
+use Rattle.text_lines.specs.edit_rules.declared.EditKind.TheVariants as kinds
+use Rattle.text_lines.specs.edit_rules.ScriptFault.{lesser, least, some_token, unless, name_fault}
+use Rattle.text_lines.specs.edit_rules.ScriptFault.{bound_fault}
+use Rattle.text_lines.specs.edit_rules.ScriptFault.{rate_fault, not_negative, positive, is_whole}
+use Rattle.text_lines.specs.edit_rules.ScriptFault.{whole_within}
+use Rattle.text_lines.specs.edit_rules.ScriptFault.{place_of, years_of, years_fault, names_fault}
+use Rattle.text_lines.specs.edit_rules.Read.{told, judged}
 
 pub err_not_ok : {A B : Type 0} (fault : B) (value : A)
     → ◌≡◌ {A = Result A B} (Err fault) (Ok value) → ⊥

@@ -1,10 +1,10 @@
 -- Units that are twice in an exclusion.
 use Rattle.std.proofs.Common.{◌≡◌, ℕ, Bool, true, false, not, List, Option, Some, None, is_none}
 use Rattle.std.proofs.Common.{if◌then◌else◌, refl, ap, ◌∙◌}
-use Rattle.problem_rules.specs.Names.{has_double}
+use Rattle.text_lines.specs.problem_rules.Names.{has_double}
 use Rattle.text_lines.specs.Once.{once}
-use Rattle.edit_rules.specs.declared.EditKind.TheVariants.{BadMembers}
-use Rattle.edit_rules.specs.ScriptFault.{members_fault}
+use Rattle.text_lines.specs.edit_rules.declared.EditKind.TheVariants.{BadMembers}
+use Rattle.text_lines.specs.edit_rules.ScriptFault.{members_fault}
 
 told_by : (b : Bool) (names : List (List ℕ))
     → (if is_none (if b then None else Some names) then Some BadMembers else None)

@@ -1,8 +1,8 @@
 -- Of three kinds the least is reported, whichever two are compared first.
 use Rattle.std.proofs.Common.{◌≡◌, Option, Some, None, refl, arith}
 use Rattle.std.proofs.lemmas.Bool.Decides.{nat_tests}
-use Rattle.edit_rules.specs.declared.EditKind.{EditKind}
-use Rattle.edit_rules.specs.ScriptFault.{lesser}
+use Rattle.text_lines.specs.edit_rules.declared.EditKind.{EditKind}
+use Rattle.text_lines.specs.edit_rules.ScriptFault.{lesser}
 
 lesser_none : (kind : Option EditKind) → lesser kind None ≡ kind
 lesser_none None = refl

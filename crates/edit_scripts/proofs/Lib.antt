@@ -1,3 +1,4 @@
+pub mod Cited
 mod Least
 mod ScriptLines
 mod Doubles

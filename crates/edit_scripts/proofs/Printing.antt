@@ -3,11 +3,14 @@ use Rattle.std.proofs.Common.{◌≡◌, ◌<◌, ◌-◌, take, arith, ℕ, Lis
 use Rattle.std.proofs.Common.{drop, get_or, refl, sym, ap, ◌∙◌, append_assoc, append-nil}
 use Rattle.std.proofs.lemmas.List.{take_all}
 use Rattle.std.proofs.lemmas.List.Sums.{fold-append}
-use Rattle.edit_rules.specs.Edit.{NamedTerm, Edit, price, bounds, kind, capacity, fix, proportional}
-use Rattle.edit_rules.specs.Edit.{rename_material, rename_unit, add_material, remove_material}
-use Rattle.edit_rules.specs.Edit.{add_unit, remove_unit, exclude, unexclude, investment, payout}
-use Rattle.text_rules.specs.Canonical.{joined}
-use Rattle.edit_rules.specs.Printed.{term_tokens, side_tokens, fields_of}
+use Rattle.text_lines.specs.edit_rules.Edit.{NamedTerm, Edit, price, bounds, kind, capacity, fix}
+use Rattle.text_lines.specs.edit_rules.Edit.{proportional}
+use Rattle.text_lines.specs.edit_rules.Edit.{rename_material, rename_unit, add_material}
+use Rattle.text_lines.specs.edit_rules.Edit.{remove_material}
+use Rattle.text_lines.specs.edit_rules.Edit.{add_unit, remove_unit, exclude, unexclude, investment}
+use Rattle.text_lines.specs.edit_rules.Edit.{payout}
+use Rattle.text_lines.specs.text_rules.Canonical.{joined}
+use Rattle.text_lines.specs.edit_rules.Printed.{term_tokens, side_tokens, fields_of}
 use Rattle.edit_scripts.specs.Printing.{appended, further_terms, head_of, amounts_of, tail_of}
 
 -- after a word, joined by spaces

@@ -6,34 +6,41 @@ use Rattle.std.specs.List.{list_any}
 use Rattle.std.specs.Str.{bytes_eq}
 use Rattle.std.proofs.lemmas.Bool.{or_parts, eqb-false}
 use Rattle.std.proofs.lemmas.List.{length-map}
-use Rattle.problem_rules.specs.Each.{Each}
-use Rattle.problem_rules.specs.Names.{is_among, has_double}
-use Rattle.problem_rules.specs.Problem.{Kind}
-use Rattle.problem_rules.specs.WellFormed.{IsInRange, IsBound}
-use Rattle.edit_rules.specs.Edit.{Edit, price, bounds, kind, capacity, fix, proportional}
-use Rattle.edit_rules.specs.Edit.{rename_material, rename_unit, add_material, add_unit, exclude}
-use Rattle.edit_rules.specs.Edit.{remove_material, remove_unit, unexclude, investment, payout}
-use Rattle.edit_rules.specs.Edit.{Script}
-use Rattle.edit_rules.specs.Formed.{IsName, IsFormed, IsFormedTerm, IsFormedSide, AreFormedSides}
-use Rattle.edit_rules.specs.Formed.{AreSignedBounds, AreRising, IsFormedScript, IsPayout}
-use Rattle.edit_rules.specs.Formed.{term_names}
-use Rattle.text_rules.specs.Fault.{millionths}
-use Rattle.edit_rules.specs.declared.EditKind.{EditKind}
-use Rattle.edit_rules.specs.declared.EditKind.TheVariants as kinds
-use Rattle.edit_rules.specs.declared.Word.{Word}
-use Rattle.edit_rules.specs.declared.Word.TheVariants as words
-use Rattle.text_rules.specs.Value.{kind_of}
-use Rattle.edit_rules.specs.ScriptFault.{Fault, place_of, years_of, name_fault, kind_fault}
-use Rattle.edit_rules.specs.ScriptFault.{amount_fault, bound_fault, place_fault, years_fault}
-use Rattle.edit_rules.specs.ScriptFault.{names_fault, members_fault}
-use Rattle.edit_rules.specs.Line.{tokens_of, word_named}
-use Rattle.edit_rules.specs.Read.{name_read, names_read, kind_read, amount_read, fixed_read}
-use Rattle.edit_rules.specs.Read.{bounds_read, costs_read, years_read, material_read}
-use Rattle.edit_rules.specs.Read.{with_sides}
-use Rattle.edit_rules.specs.Read.{unit_read, exclusion_read, edit_by, fields_read, worded_read}
-use Rattle.edit_rules.specs.Read.{tokens_read, line_read, with_line, lines_read}
-use Rattle.edit_rules.specs.Term.{Pair, sides_of, term_fault, terms_fault, sides_fault}
-use Rattle.edit_rules.specs.Term.{materials_of, are_bad_sides, term_read}
+use Rattle.text_lines.specs.problem_rules.Each.{Each}
+use Rattle.text_lines.specs.problem_rules.Names.{is_among, has_double}
+use Rattle.text_lines.specs.problem_rules.Problem.{Kind}
+use Rattle.text_lines.specs.problem_rules.WellFormed.{IsInRange, IsBound}
+use Rattle.text_lines.specs.edit_rules.Edit.{Edit, price, bounds, kind, capacity, fix, proportional}
+use Rattle.text_lines.specs.edit_rules.Edit.{rename_material, rename_unit, add_material, add_unit}
+use Rattle.text_lines.specs.edit_rules.Edit.{exclude}
+use Rattle.text_lines.specs.edit_rules.Edit.{remove_material, remove_unit, unexclude, investment}
+use Rattle.text_lines.specs.edit_rules.Edit.{payout}
+use Rattle.text_lines.specs.edit_rules.Edit.{Script}
+use Rattle.text_lines.specs.edit_rules.Formed.{IsName, IsFormed, IsFormedTerm, IsFormedSide}
+use Rattle.text_lines.specs.edit_rules.Formed.{AreFormedSides}
+use Rattle.text_lines.specs.edit_rules.Formed.{AreSignedBounds, AreRising, IsFormedScript, IsPayout}
+use Rattle.text_lines.specs.edit_rules.Formed.{term_names}
+use Rattle.text_lines.specs.text_rules.Fault.{millionths}
+use Rattle.text_lines.specs.edit_rules.declared.EditKind.{EditKind}
+use Rattle.text_lines.specs.edit_rules.declared.EditKind.TheVariants as kinds
+use Rattle.text_lines.specs.edit_rules.declared.Word.{Word}
+use Rattle.text_lines.specs.edit_rules.declared.Word.TheVariants as words
+use Rattle.text_lines.specs.text_rules.Value.{kind_of}
+use Rattle.text_lines.specs.edit_rules.ScriptFault.{Fault, place_of, years_of, name_fault}
+use Rattle.text_lines.specs.edit_rules.ScriptFault.{kind_fault}
+use Rattle.text_lines.specs.edit_rules.ScriptFault.{amount_fault, bound_fault, place_fault}
+use Rattle.text_lines.specs.edit_rules.ScriptFault.{years_fault}
+use Rattle.text_lines.specs.edit_rules.ScriptFault.{names_fault, members_fault}
+use Rattle.text_lines.specs.edit_rules.Line.{tokens_of, word_named}
+use Rattle.text_lines.specs.edit_rules.Read.{name_read, names_read, kind_read, amount_read}
+use Rattle.text_lines.specs.edit_rules.Read.{fixed_read}
+use Rattle.text_lines.specs.edit_rules.Read.{bounds_read, costs_read, years_read, material_read}
+use Rattle.text_lines.specs.edit_rules.Read.{with_sides}
+use Rattle.text_lines.specs.edit_rules.Read.{unit_read, exclusion_read, edit_by, fields_read}
+use Rattle.text_lines.specs.edit_rules.Read.{worded_read}
+use Rattle.text_lines.specs.edit_rules.Read.{tokens_read, line_read, with_line, lines_read}
+use Rattle.text_lines.specs.edit_rules.Term.{Pair, sides_of, term_fault, terms_fault, sides_fault}
+use Rattle.text_lines.specs.edit_rules.Term.{materials_of, are_bad_sides, term_read}
 use Rattle.edit_scripts.proofs.Clear.{err_not_ok, ok_same, judged_good, both_clear, not_clear}
 use Rattle.edit_scripts.proofs.Clear.{name_clear, names_clear, range_of, bound_clear, rate_clear}
 use Rattle.edit_scripts.proofs.Clear.{place_clear, years_clear}

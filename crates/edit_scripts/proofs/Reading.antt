@@ -1,12 +1,12 @@
 -- Lines that are read one by one.
 use Rattle.std.proofs.Common.{◌≡◌, ◌==◌, ◌+◌, ◌++◌, ℕ, false, List, [], ◌∷◌, inl, inr, length, map}
 use Rattle.std.proofs.Common.{Result, Ok, Err, refl, sym, ap, ◌∙◌, append_assoc, append-nil}
-use Rattle.edit_rules.specs.Edit.{Edit, Script}
-use Rattle.edit_rules.specs.declared.EditKind.{EditKind}
-use Rattle.edit_rules.specs.declared.EditKind.TheVariants.{FileType}
-use Rattle.edit_rules.specs.ScriptFault.{Fault}
-use Rattle.edit_rules.specs.Line.{file_type}
-use Rattle.edit_rules.specs.Read.{line_read, with_line, lines_read, text_read}
+use Rattle.text_lines.specs.edit_rules.Edit.{Edit, Script}
+use Rattle.text_lines.specs.edit_rules.declared.EditKind.{EditKind}
+use Rattle.text_lines.specs.edit_rules.declared.EditKind.TheVariants.{FileType}
+use Rattle.text_lines.specs.edit_rules.ScriptFault.{Fault}
+use Rattle.text_lines.specs.edit_rules.Line.{file_type}
+use Rattle.text_lines.specs.edit_rules.Read.{line_read, with_line, lines_read, text_read}
 use Rattle.text_lines.specs.Lines.{IsUntyped}
 use Rattle.text_lines.specs.Tells.{Tells, TellsLine, fault_at}
 use Rattle.text_lines.specs.declared.fault.LineFault.{LineFault}

@@ -1,8 +1,8 @@
 -- Lines that follow one another rise, and there are as many as edits.
 use Rattle.std.proofs.Common.{◌≡◌, ◌<◌, ◌+◌, ◌∷◌, [], ℕ, suc, List, length, refl, ap, arith}
-use Rattle.problem_rules.specs.Each.{Each}
-use Rattle.edit_rules.specs.Edit.{Edit}
-use Rattle.edit_rules.specs.Formed.{IsFormed, AreRising, IsFormedScript, lines_from}
+use Rattle.text_lines.specs.problem_rules.Each.{Each}
+use Rattle.text_lines.specs.edit_rules.Edit.{Edit}
+use Rattle.text_lines.specs.edit_rules.Formed.{IsFormed, AreRising, IsFormedScript, lines_from}
 
 lines_rise : (low line : ℕ) (edits : List Edit) → low < line → AreRising low (lines_from line edits)
 lines_rise low line [] less = tt

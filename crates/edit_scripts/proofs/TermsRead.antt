@@ -3,12 +3,12 @@
 use Rattle.std.proofs.Common.{◌≡◌, ◌==◌, ◌∷◌, [], ℕ, Bool, nat_lt, length, if◌then◌else◌, List}
 use Rattle.std.proofs.Common.{Option, Some, None, map, option_map, refl, ap, ◌∙◌, arith}
 use Rattle.std.proofs.lemmas.Bool.{or_right, lt-ltb}
-use Rattle.text_rules.specs.Field.{terms_of}
-use Rattle.text_rules.specs.Term.{sides_read}
-use Rattle.text_rules.specs.Term as rates
+use Rattle.text_lines.specs.text_rules.Field.{terms_of}
+use Rattle.text_lines.specs.text_rules.Term.{sides_read}
+use Rattle.text_lines.specs.text_rules.Term as rates
 use Rattle.text_lines.specs.Terms.{begins, terms_read, both_read}
-use Rattle.text_lines.proofs.Sides.{term-good, term-bad, sides-two, sides-none}
-use Rattle.edit_rules.specs.Term.{Pair, pair_of, with_pair, pairs_of, both, both_sides}
+use Rattle.text_lines.proofs.Cited.{term-good, term-bad, sides-two, sides-none}
+use Rattle.text_lines.specs.edit_rules.Term.{Pair, pair_of, with_pair, pairs_of, both, both_sides}
 
 begun : (term : List (List ℕ)) → begins term ≡ pair_of term
 begun [] = refl

@@ -7,14 +7,15 @@ use Rattle.std.specs.Str.{bytes_eq}
 use Rattle.std.proofs.lemmas.List.{take_all}
 use Rattle.std.specs.Borrow.{Bor}
 use Rattle.text_lines.specs.View.{texts}
-use Rattle.edit_rules.specs.declared.EditKind.TheVariants.{BadLine}
-use Rattle.edit_rules.specs.declared.EditKind.{EditKind}
-use Rattle.edit_rules.specs.Edit.{Edit, exclude}
-use Rattle.edit_rules.specs.ScriptFault.{least, place_of, place_fault, name_fault, names_fault}
-use Rattle.edit_rules.specs.ScriptFault.{members_fault}
-use Rattle.edit_rules.specs.Term.{Pair, sides_of}
-use Rattle.edit_rules.specs.Read.{told, judged, material_read, with_sides, unit_read}
-use Rattle.edit_rules.specs.Read.{exclusion_read}
+use Rattle.text_lines.specs.edit_rules.declared.EditKind.TheVariants.{BadLine}
+use Rattle.text_lines.specs.edit_rules.declared.EditKind.{EditKind}
+use Rattle.text_lines.specs.edit_rules.Edit.{Edit, exclude}
+use Rattle.text_lines.specs.edit_rules.ScriptFault.{least, place_of, place_fault, name_fault}
+use Rattle.text_lines.specs.edit_rules.ScriptFault.{names_fault}
+use Rattle.text_lines.specs.edit_rules.ScriptFault.{members_fault}
+use Rattle.text_lines.specs.edit_rules.Term.{Pair, sides_of}
+use Rattle.text_lines.specs.edit_rules.Read.{told, judged, material_read, with_sides, unit_read}
+use Rattle.text_lines.specs.edit_rules.Read.{exclusion_read}
 
 -- the token at a place, without its address
 abbrev at : List (Bor (List ℕ)) → ℕ → List ℕ

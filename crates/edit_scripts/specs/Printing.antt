@@ -2,12 +2,15 @@
 -- names and the kind; then the amounts; then the sides, the units or the years.
 use Rattle.std.specs.Prelude.{ℕ, List, [], ◌∷◌, ◌++◌, codes, decimal, flat_map, map, unsigned_abs}
 use Rattle.std.specs.List.{fold}
-use Rattle.edit_rules.specs.Edit.{NamedTerm, Edit, price, bounds, kind, capacity, fix, proportional}
-use Rattle.edit_rules.specs.Edit.{rename_material, rename_unit, add_material, remove_material}
-use Rattle.edit_rules.specs.Edit.{add_unit, remove_unit, exclude, unexclude, investment, payout}
-use Rattle.text_rules.specs.Canonical.{kind_word}
-use Rattle.text_rules.specs.Printed.{amount_bytes}
-use Rattle.edit_rules.specs.Printed.{term_tokens, side_tokens, edit_line, printed}
+use Rattle.text_lines.specs.edit_rules.Edit.{NamedTerm, Edit, price, bounds, kind, capacity, fix}
+use Rattle.text_lines.specs.edit_rules.Edit.{proportional}
+use Rattle.text_lines.specs.edit_rules.Edit.{rename_material, rename_unit, add_material}
+use Rattle.text_lines.specs.edit_rules.Edit.{remove_material}
+use Rattle.text_lines.specs.edit_rules.Edit.{add_unit, remove_unit, exclude, unexclude, investment}
+use Rattle.text_lines.specs.edit_rules.Edit.{payout}
+use Rattle.text_lines.specs.text_rules.Canonical.{kind_word}
+use Rattle.text_lines.specs.text_rules.Printed.{amount_bytes}
+use Rattle.text_lines.specs.edit_rules.Printed.{term_tokens, side_tokens, edit_line, printed}
 
 -- the text with the fields appended
 abbrev pub appended : List ℕ → List (List ℕ) → List ℕ

@@ -1,6 +1,6 @@
 -- Edits, as the rules have them.
 use Rattle.std.specs.Prelude.{map, string_bytes}
-use Rattle.edit_rules.specs.Edit as rules
+use Rattle.text_lines.specs.edit_rules.Edit as rules
 use Rattle.pns_problem.specs.Kind.{kind_of}
 use Rattle.edit_scripts.specs.declared.edit.Edit.{Edit}
 use Rattle.edit_scripts.specs.declared.edit.Edit.TheVariants.{Price, Bounds, Kind, Capacity, Fix}

@@ -1,8 +1,8 @@
 -- A reading that continues: the edits that were read, and then the lines that remain.
 use Rattle.std.specs.Prelude.{◌++◌, ℕ, List, map, Result, Ok, Err}
-use Rattle.edit_rules.specs.Edit.{Edit, Script}
-use Rattle.edit_rules.specs.ScriptFault.{Fault}
-use Rattle.edit_rules.specs.Read.{lines_read}
+use Rattle.text_lines.specs.edit_rules.Edit.{Edit, Script}
+use Rattle.text_lines.specs.edit_rules.ScriptFault.{Fault}
+use Rattle.text_lines.specs.edit_rules.Read.{lines_read}
 use Rattle.edit_scripts.specs.View.{edit_of}
 use Rattle.edit_scripts.specs.declared.read.Walk.{Walk}
 

@@ -1,6 +1,5 @@
 //! Why a script is not read or not applied.
-use edit_rules::EditKind;
-use text_lines::fault;
+use text_lines::{EditKind, fault};
 
 /// The first fault of a script, or out of memory.
 pub type EditFault = fault::TextFault<EditKind>;

@@ -2,13 +2,13 @@
 ghost use Rattle.std.specs.Prelude.{◌≡◌, Ok, IfOk, IfErr, string_bytes};
 ghost use Rattle.text_lines.specs.View.{texts};
 ghost use Rattle.text_lines.specs.Tells.{TellsLine};
-ghost use Rattle.edit_rules.specs.Read.{name_read, names_read, amount_read, bounds_read};
+ghost use Rattle.text_lines.specs.edit_rules.Read.{name_read, names_read, amount_read, bounds_read};
 ghost use Rattle.edit_scripts.specs.Reads.{Reads};
 
 use crate::fault::LineFault;
 use crate::token::{amount_fault, bound_fault, judge, name_fault, name_string, name_text};
-use edit_rules::EditKind;
 use std::alloc::Global;
+use text_lines::EditKind;
 use text_lines::amount::millionths;
 
 /// A name.

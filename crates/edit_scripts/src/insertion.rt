@@ -1,8 +1,8 @@
 //! Lines that insert a material, a unit or an exclusion.
 ghost use Rattle.std.specs.Prelude.{◌≡◌, IfOk, map, string_bytes};
 ghost use Rattle.text_lines.specs.View.{texts};
-ghost use Rattle.edit_rules.specs.ScriptFault.{members_fault};
-ghost use Rattle.edit_rules.specs.Read.{material_read, unit_read, exclusion_read};
+ghost use Rattle.text_lines.specs.edit_rules.ScriptFault.{members_fault};
+ghost use Rattle.text_lines.specs.edit_rules.Read.{material_read, unit_read, exclusion_read};
 ghost use Rattle.edit_scripts.specs.Reads.{Reads};
 ghost use Rattle.edit_scripts.specs.View.{edit_of};
 
@@ -13,8 +13,8 @@ use crate::token::{
     amount_fault, bound_fault, judge, kind_fault, kind_of, name_fault, name_string, names_fault,
     place_fault, place_of,
 };
-use edit_rules::EditKind;
 use std::alloc::{AllocError, Global};
+use text_lines::EditKind;
 use text_lines::amount::millionths;
 use text_lines::name_set::once;
 use text_lines::term::sides_in;

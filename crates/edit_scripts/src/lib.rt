@@ -23,8 +23,9 @@ mod token;
 
 pub use edit::Edit;
 pub use fault::{EditFault, LineFault};
+pub use pns_problem::{Exclusion, Kind, Material, OperatingUnit, Parts, Problem, Term};
 pub use print::print_script;
 pub use read::read_script;
 pub use script::Script;
-pub use edit_rules::EditKind;
 pub use term::NamedTerm;
+pub use text_lines::EditKind;

@@ -1,6 +1,6 @@
 //! One line of a script.
 ghost use Rattle.text_lines.specs.View.{texts};
-ghost use Rattle.edit_rules.specs.Read.{fields_read, line_read};
+ghost use Rattle.text_lines.specs.edit_rules.Read.{fields_read, line_read};
 ghost use Rattle.edit_scripts.specs.Reads.{Reads};
 ghost use Rattle.edit_scripts.specs.View.{edit_of};
 
@@ -11,10 +11,10 @@ use crate::token::{
     years_fault, years_of,
 };
 use crate::{fields, insertion};
-use edit_rules::{EditKind, Word};
 use std::alloc::Global;
 use text_lines::amount::millionths;
 use text_lines::token::tokens_of;
+use text_lines::{EditKind, Word};
 
 /// `NAME KIND`
 fn kind(alloc: Global, fields: &[&[u8]]) -> Result<Edit, LineFault>

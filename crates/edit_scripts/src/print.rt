@@ -1,11 +1,11 @@
 //! The text of a script.
 ghost use Rattle.std.specs.Prelude.{◌≡◌, ◌++◌, ◌∷◌, [], IfOk, OnOk, map, string_bytes};
-ghost use Rattle.text_rules.specs.Printed.{amount_bytes};
-ghost use Rattle.text_rules.specs.Canonical.{kind_word};
+ghost use Rattle.text_lines.specs.text_rules.Printed.{amount_bytes};
+ghost use Rattle.text_lines.specs.text_rules.Canonical.{kind_word};
 ghost use Rattle.pns_problem.specs.Kind.{kind_of};
-ghost use Rattle.edit_rules.specs.Line.{word_text};
-ghost use Rattle.edit_rules.specs.Printed.{word_of, term_tokens, side_tokens, edit_line};
-ghost use Rattle.edit_rules.specs.Printed.{script_text};
+ghost use Rattle.text_lines.specs.edit_rules.Line.{word_text};
+ghost use Rattle.text_lines.specs.edit_rules.Printed.{word_of, term_tokens, side_tokens, edit_line};
+ghost use Rattle.text_lines.specs.edit_rules.Printed.{script_text};
 ghost use Rattle.edit_scripts.specs.Printing.{appended, head_of, amounts_of, tail_of, edit_lines};
 ghost use Rattle.edit_scripts.specs.View.{edit_of};
 

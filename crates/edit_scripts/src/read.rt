@@ -1,7 +1,7 @@
 //! The reader of a whole script.
 ghost use Rattle.std.specs.Prelude.{◌≡◌, ◌<◌, ◌+◌, ◌-◌, ◌∷◌, ◌^◌, ℕ, List, Ok, IfOk, IfErr, OnOk};
 ghost use Rattle.std.specs.Prelude.{length, map};
-ghost use Rattle.edit_rules.specs.Read.{lines_read, read_script};
+ghost use Rattle.text_lines.specs.edit_rules.Read.{lines_read, read_script};
 ghost use Rattle.text_lines.specs.Tells.{Tells};
 ghost use Rattle.edit_scripts.specs.Walk.{read_on};
 ghost use Rattle.edit_scripts.specs.View.{edit_of};
@@ -10,8 +10,8 @@ use crate::edit::Edit;
 use crate::fault::EditFault;
 use crate::line::read_line;
 use crate::script::Script;
-use edit_rules::EditKind;
 use std::alloc::Global;
+use text_lines::EditKind;
 use text_lines::lines::{Drops, Lines};
 
 /// The edits so far with the numbers of their lines.

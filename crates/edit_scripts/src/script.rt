@@ -1,7 +1,8 @@
 //! Scripts: edits with the numbers of their lines.
 ghost use Rattle.std.specs.Prelude.{◌≡◌, ◌<◌, ◌-◌, ◌^◌, IfOk, length, map};
-ghost use Rattle.problem_rules.specs.Each.{Each};
-ghost use Rattle.edit_rules.specs.Formed.{IsFormed, IsFormedScript, lines_from, script_of};
+ghost use Rattle.text_lines.specs.problem_rules.Each.{Each};
+ghost use Rattle.text_lines.specs.edit_rules.Formed.{IsFormed, IsFormedScript, lines_from};
+ghost use Rattle.text_lines.specs.edit_rules.Formed.{script_of};
 ghost use Rattle.edit_scripts.specs.View.{edit_of};
 
 use crate::edit::Edit;
@@ -18,8 +19,8 @@ pub struct Script {
 
 impl Model for Script {
     ghost use Rattle.std.specs.Prelude.{map};
-    ghost use Rattle.edit_rules.specs.Edit as rules;
-    ghost use Rattle.edit_rules.specs.Formed.{IsFormedScript};
+    ghost use Rattle.text_lines.specs.edit_rules.Edit as rules;
+    ghost use Rattle.text_lines.specs.edit_rules.Formed.{IsFormedScript};
     ghost use Rattle.edit_scripts.specs.View.{edit_of};
 
     ghost Value = { rules.Script };

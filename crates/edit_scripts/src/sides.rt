@@ -1,16 +1,17 @@
 //! The terms on both sides of a new unit.
 ghost use Rattle.std.specs.Prelude.{◌≡◌, IfOk, map};
 ghost use Rattle.std.specs.List.{list_any};
-ghost use Rattle.problem_rules.specs.Names.{is_among};
+ghost use Rattle.text_lines.specs.problem_rules.Names.{is_among};
 ghost use Rattle.text_lines.specs.Once.{once};
 ghost use Rattle.text_lines.specs.Terms.{term_view, terms_view, sides_view};
-ghost use Rattle.edit_rules.specs.Term.{term_fault, terms_fault, materials_of, are_bad_sides};
-ghost use Rattle.edit_rules.specs.Term.{sides_fault, term_read};
+ghost use Rattle.text_lines.specs.edit_rules.Term.{term_fault, terms_fault, materials_of};
+ghost use Rattle.text_lines.specs.edit_rules.Term.{are_bad_sides};
+ghost use Rattle.text_lines.specs.edit_rules.Term.{sides_fault, term_read};
 
 use crate::term::NamedTerm;
 use crate::token::{lesser, name_fault, name_string, rate_fault};
-use edit_rules::EditKind;
 use std::alloc::{AllocError, Global};
+use text_lines::EditKind;
 use text_lines::amount::millionths;
 use text_lines::name_set::{NameSet, once};
 use text_lines::term::{Sides, Term};

@@ -10,7 +10,7 @@ pub struct NamedTerm {
 
 impl Model for NamedTerm {
     ghost use Rattle.std.specs.Prelude.{string_bytes};
-    ghost use Rattle.edit_rules.specs.Edit as rules;
+    ghost use Rattle.text_lines.specs.edit_rules.Edit as rules;
 
     ghost Value = { rules.NamedTerm };
 

@@ -1,25 +1,27 @@
 //! What is wrong with a token in its place of a line, and what it stands for.
 ghost use Rattle.std.specs.Prelude.{◌≡◌, ◌≤◌, IfOk, IfErr, OnOk, Some, None, string_bytes};
-ghost use Rattle.text_rules.specs.Value.{kind_of};
+ghost use Rattle.text_lines.specs.text_rules.Value.{kind_of};
 ghost use Rattle.pns_problem.specs.Kind as kinds;
 ghost use Rattle.text_lines.specs.View.{texts};
 ghost use Rattle.text_lines.specs.declared.fault.LineFault.TheVariants as line;
-ghost use Rattle.edit_rules.specs.ScriptFault.{kind_number, lesser, least, some_token, number_fault};
-ghost use Rattle.edit_rules.specs.ScriptFault.{name_fault, kind_fault, amount_fault, bound_fault};
-ghost use Rattle.edit_rules.specs.ScriptFault.{rate_fault, place_of, place_fault, years_of};
-ghost use Rattle.edit_rules.specs.ScriptFault.{years_fault, names_fault};
-ghost use Rattle.edit_rules.specs.Line.{word_named};
+ghost use Rattle.text_lines.specs.edit_rules.ScriptFault.{kind_number, lesser, least, some_token};
+ghost use Rattle.text_lines.specs.edit_rules.ScriptFault.{number_fault};
+ghost use Rattle.text_lines.specs.edit_rules.ScriptFault.{name_fault, kind_fault, amount_fault};
+ghost use Rattle.text_lines.specs.edit_rules.ScriptFault.{bound_fault};
+ghost use Rattle.text_lines.specs.edit_rules.ScriptFault.{rate_fault, place_of, place_fault};
+ghost use Rattle.text_lines.specs.edit_rules.ScriptFault.{years_of};
+ghost use Rattle.text_lines.specs.edit_rules.ScriptFault.{years_fault, names_fault};
+ghost use Rattle.text_lines.specs.edit_rules.Line.{word_named};
 
 use crate::fault::LineFault;
 use pns_problem::Kind;
-use edit_rules::{EditKind, Word};
 use std::alloc::{AllocError, Global};
 use std::str;
 use text_lines::amount::read_amount;
 use text_lines::name::is_name;
 use text_lines::whole_number::whole_within;
 use text_lines::words::looked_up;
-use text_rules::TextKind;
+use text_lines::{EditKind, TextKind, Word};
 
 const WORDS: [(&[u8], Word); 16] = [
     (b"price", Word::Price),

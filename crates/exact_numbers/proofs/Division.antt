@@ -14,7 +14,7 @@ use Rattle.std.proofs.lemmas.List.{take_all, get_or-take, length-take-le, length
 use Rattle.std.proofs.lemmas.List.{get_or-append_right, get_or-drop, get_or_default, drop_all}
 use Rattle.std.proofs.lemmas.List.{append-nil}
 use Rattle.std.proofs.lemmas.List.Edits.{map_over_more}
-use Rattle.integer_laws.proofs.Coprime.{one_divides}
+use Rattle.integer_laws.proofs.Cited.{one_divides}
 use Rattle.integer_laws.specs.Reduced.{DividesAll, IsRowGcd, IsReduced, scaled}
 
 rem_none : (e : ℤ) (n : ℕ) → n ∣ unsigned_abs e → int_rem e (pos n) ≡ pos 0

@@ -4,10 +4,8 @@ use Rattle.std.specs.Prelude.{unsigned_abs, ◌↔◌}
 use Rattle.std.specs.Int.{IsGcd}
 use Rattle.std.proofs.lemmas.Int.{unsigned_abs-mul}
 use Rattle.std.proofs.lemmas.Nat.Gcd.{IsGcd-swap}
-use Rattle.integer_laws.proofs.Ring.{V, ◌⊕◌, ◌⊗◌, ring}
-use Rattle.integer_laws.proofs.Order.{mul_pos}
-use Rattle.integer_laws.proofs.Coprime.{coprime-mul, coprime-divisors}
-use Rattle.integer_laws.proofs.LowestTerms.{part_divides}
+use Rattle.integer_laws.proofs.Cited.{V, ◌⊕◌, ◌⊗◌, ring, mul_pos, coprime-mul, coprime-divisors}
+use Rattle.integer_laws.proofs.Cited.{part_divides}
 use Rattle.integer_laws.specs.Range.{InRange}
 use Rattle.integer_laws.specs.Lowest.{IsLowest}
 use Rattle.exact_numbers.proofs.LowestLemmas.{lowest_same, lowest_cross, lowest_scaled}

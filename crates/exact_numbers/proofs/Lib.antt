@@ -1,3 +1,4 @@
+pub mod Cited
 pub mod Division
 pub mod Entries
 pub mod EuclidLemmas
@@ -7,3 +8,4 @@ pub mod NumberLemmas
 pub mod RangeLemmas
 pub mod ShareLemmas
 pub mod Unique
+pub use Rattle.integer_laws.proofs as integer_laws

@@ -7,10 +7,8 @@ use Rattle.std.specs.Int.{IsGcd, ◌∣◌}
 use Rattle.std.proofs.lemmas.Int.{ints, unsigned_abs-mul}
 use Rattle.std.proofs.lemmas.Nat.Gcd.{same_from_IsGcd, mod-eq-zero_of_dvd, IsGcd-swap}
 use Rattle.std.proofs.Math.Nat.{mul_comm, dvd-mul_right}
-use Rattle.integer_laws.proofs.Ring.{V, ◌⊗◌, ring, mul_comm_z}
-use Rattle.integer_laws.proofs.Order.{cancel, pos_of-mul}
-use Rattle.integer_laws.proofs.Coprime.{IsGcd-mul, dvd_of_coprime}
-use Rattle.integer_laws.proofs.LowestTerms.{gcd_positive, lowest_of-gcd}
+use Rattle.integer_laws.proofs.Cited.{V, ◌⊗◌, ring, mul_comm_z, cancel, pos_of-mul, IsGcd-mul}
+use Rattle.integer_laws.proofs.Cited.{dvd_of_coprime, gcd_positive, lowest_of-gcd}
 use Rattle.integer_laws.specs.Lowest.{IsLowest}
 
 -- what is left after division by the greatest common divisor is in lowest terms

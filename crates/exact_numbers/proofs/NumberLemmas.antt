@@ -8,8 +8,7 @@ use Rattle.std.specs.declared.cmp.Ordering.{Ordering}
 use Rattle.std.specs.declared.cmp.Ordering.TheVariants.{Less, Equal, Greater}
 use Rattle.std.specs.Cmp.{int_cmp_is, int_ranked, ranked}
 use Rattle.std.proofs.lemmas.Int.{ints}
-use Rattle.integer_laws.proofs.Ring.{V, ◌⊕◌, ◌⊗◌, ring}
-use Rattle.integer_laws.proofs.Order.{mul-le_right, mul-lt_right}
+use Rattle.integer_laws.proofs.Cited.{V, ◌⊕◌, ◌⊗◌, ring, mul-le_right, mul-lt_right}
 
 pub quotient_whole : (num den : ℤ) → pos 1 ≤ℤ den
     → int_div_euclid num den *ℤ den +ℤ pos (unsigned_abs (int_rem_euclid num den)) ≡ num

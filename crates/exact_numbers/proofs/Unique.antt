@@ -8,7 +8,7 @@ use Rattle.std.proofs.lemmas.Int.{ints, unsigned_abs-mul}
 use Rattle.std.proofs.lemmas.Nat.Gcd.{dvd_antisymm}
 use Rattle.std.proofs.lemmas.List.Elements.{All-map}
 use Rattle.std.proofs.Math.Nat.{mul-dvd-mul_left, dvd_of_mul-dvd-mul_left}
-use Rattle.integer_laws.proofs.Order.{cancel}
+use Rattle.integer_laws.proofs.Cited.{cancel}
 use Rattle.integer_laws.specs.declared.which.Which.{Which}
 use Rattle.integer_laws.specs.Reduced.{DividesAll, IsRowGcd, IsReduced, scaled}
 use Rattle.integer_laws.specs.Combined.{combined, past_at, IsCombined, IsPastEntry}

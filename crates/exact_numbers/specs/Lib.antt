@@ -5,3 +5,4 @@ pub mod Order
 pub mod OrderLaws
 pub mod Product
 pub mod Sum
+pub use Rattle.integer_laws.specs as integer_laws

@@ -5,8 +5,7 @@ use Rattle.std.proofs.Common.{sym, ap, ◌∙◌, arith}
 use Rattle.std.specs.Cmp.{IsTotalOrder, int_cmp_total, int_cmp_is, int_ranked}
 use Rattle.std.specs.Ordering.{int_cmp}
 use Rattle.std.specs.declared.cmp.Ordering.TheVariants.{Less, Equal}
-use Rattle.integer_laws.proofs.Ring.{ring_z, V, ◌⊗◌, ring}
-use Rattle.integer_laws.proofs.Order.{mul-lt_left, cancel_lt, int_cmp-mul}
+use Rattle.integer_laws.proofs.Cited.{ring_z, V, ◌⊗◌, ring, mul-lt_left, cancel_lt, int_cmp-mul}
 use Rattle.exact_numbers.specs.declared.number.Mixed.{Mixed}
 use Rattle.exact_numbers.specs.Number.{numerator, denominator}
 use Rattle.exact_numbers.specs.MixedOrder.{mixed_cmp}

@@ -7,9 +7,8 @@ use Rattle.std.specs.Cmp.{IsTotalOrder, int_cmp_total, int_cmp_is, int_ranked, b
 use Rattle.std.specs.Cmp.{signed_Decides}
 use Rattle.std.specs.Ordering.{int_cmp, int_eq, eq_by_cmp}
 use Rattle.std.specs.declared.cmp.Ordering.TheVariants.{Less, Equal}
-use Rattle.integer_laws.proofs.Ring.{ring_z, V, ◌⊗◌, ring}
-use Rattle.integer_laws.proofs.Order.{mul-lt_left, cancel_lt, int_cmp-mul}
-use Rattle.integer_laws.proofs.LowestTerms.{lowest_unique}
+use Rattle.integer_laws.proofs.Cited.{ring_z, V, ◌⊗◌, ring, mul-lt_left, cancel_lt, int_cmp-mul}
+use Rattle.integer_laws.proofs.Cited.{lowest_unique}
 use Rattle.exact_numbers.specs.declared.fraction.Frac.{Frac}
 use Rattle.exact_numbers.specs.Order.{fraction_cmp}
 

@@ -54,4 +54,5 @@ pub use cost::CostOver;
 pub use divisors::{gcd, lowest_terms, primitive};
 pub use euclid::compare_fractions;
 pub use fraction::{Frac, Past};
+pub use integer_laws::Which;
 pub use number::Mixed;

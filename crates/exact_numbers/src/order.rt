@@ -2,8 +2,8 @@
 ghost use Rattle.std.specs.Prelude.{◌≡◌};
 ghost use Rattle.exact_numbers.specs.MixedOrder.{mixed_cmp};
 
-use crate::number::Mixed;
 use crate::compare_fractions;
+use crate::number::Mixed;
 use std::cmp::Ordering;
 
 /// Compares the whole parts and, if they are equal, the fractions.

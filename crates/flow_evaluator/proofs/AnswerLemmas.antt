@@ -1,21 +1,21 @@
 -- The answers, from what a bench keeps at the node of the units.
 use Rattle.std.proofs.Common.{◌≡◌, ℕ, ◌<◌, true, ℤ, pos, ◌*ℤ◌, ◌≤ℤ◌, List, [], ◌∷◌, length, refl}
 use Rattle.std.proofs.Common.{sym, ap, ◌∙◌, subst}
-use Rattle.number_sets.specs.Sets.{has, IsSet}
-use Rattle.number_sets.proofs.SetLemmas.{below_from}
-use Rattle.integer_laws.specs.Range.{InRange}
-use Rattle.problem_rules.specs.Problem.{Problem}
-use Rattle.problem_rules.specs.Validity.{IsValid}
-use Rattle.pns_rules.specs.Shape.{shape_of}
-use Rattle.pns_rules.specs.Structure.{IsStructure}
-use Rattle.pns_rules.specs.Nodes.{Node}
-use Rattle.flow_rules.specs.Net.{Net, net_of, beside}
-use Rattle.flow_rules.specs.Flows.{IsFlows, cost}
-use Rattle.flow_rules.specs.Program.{Program, program_of}
-use Rattle.flow_rules.specs.Relaxed.{bound, units, rows}
-use Rattle.flow_rules.specs.Steps.{AreInRange, last_from}
+use Rattle.dual_simplex.specs.number_sets.Sets.{has, IsSet}
+use Rattle.dual_simplex.proofs.number_sets.Cited.{below_from}
+use Rattle.dual_simplex.specs.integer_laws.Range.{InRange}
+use Rattle.dual_simplex.specs.problem_rules.Problem.{Problem}
+use Rattle.dual_simplex.specs.problem_rules.Validity.{IsValid}
+use Rattle.dual_simplex.specs.pns_rules.Shape.{shape_of}
+use Rattle.dual_simplex.specs.pns_rules.Structure.{IsStructure}
+use Rattle.dual_simplex.specs.pns_rules.Nodes.{Node}
+use Rattle.dual_simplex.specs.flow_rules.Net.{Net, net_of, beside}
+use Rattle.dual_simplex.specs.flow_rules.Flows.{IsFlows, cost}
+use Rattle.dual_simplex.specs.flow_rules.Program.{Program, program_of}
+use Rattle.dual_simplex.specs.flow_rules.Relaxed.{bound, units, rows}
+use Rattle.dual_simplex.specs.flow_rules.Steps.{AreInRange, last_from}
 use Rattle.dual_simplex.specs.Bench.{Bench, IsLeastOf}
-use Rattle.tree_rules.specs.LeastFlows.{decided, rows_of}
+use Rattle.node_evaluation.specs.tree_rules.LeastFlows.{decided, rows_of}
 use Rattle.flow_evaluator.specs.Laws.{ProvedIsLeast}
 use Rattle.flow_evaluator.specs.Answers.{IsLeastFor}
 

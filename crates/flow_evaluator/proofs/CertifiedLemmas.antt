@@ -2,24 +2,23 @@
 use Rattle.std.proofs.Common.{◌≡◌, ℕ, ℤ, pos, ◌*ℤ◌, ◌≤ℤ◌, ◌<ℤ◌, List, Some, refl, sym, ap, ◌∙◌}
 use Rattle.std.proofs.Common.{subst, arith}
 use Rattle.std.proofs.lemmas.Int.{ints}
-use Rattle.integer_laws.proofs.Ring.{V, ◌⊗◌, ring}
-use Rattle.integer_laws.proofs.Order.{mul-le_left, cancel_le}
-use Rattle.number_sets.specs.Sets.{has, IsSet}
-use Rattle.number_sets.proofs.SetLemmas.{same_sets}
-use Rattle.integer_laws.specs.Range.{InRange}
-use Rattle.problem_rules.specs.Problem.{Problem}
-use Rattle.problem_rules.specs.Validity.{IsValid}
-use Rattle.exact_numbers.specs.Number.{numerator, denominator}
-use Rattle.exact_numbers.specs.declared.number.Mixed.{Mixed}
-use Rattle.exact_numbers.specs.MixedOrderLaws.{denominator_positive}
-use Rattle.flow_rules.specs.Net.{net_of, beside}
-use Rattle.flow_rules.specs.Flows.{cost}
-use Rattle.flow_rules.specs.Relaxed.{bound}
-use Rattle.flow_rules.specs.Laws.{WeakDuality}
-use Rattle.tree_rules.specs.Claim.{Network, size_in}
-use Rattle.tree_rules.specs.Leaf.{IsBounded}
+use Rattle.dual_simplex.proofs.integer_laws.Cited.{V, ◌⊗◌, ring, mul-le_left, cancel_le}
+use Rattle.dual_simplex.specs.number_sets.Sets.{has, IsSet}
+use Rattle.dual_simplex.proofs.number_sets.Cited.{same_sets}
+use Rattle.dual_simplex.specs.integer_laws.Range.{InRange}
+use Rattle.dual_simplex.specs.problem_rules.Problem.{Problem}
+use Rattle.dual_simplex.specs.problem_rules.Validity.{IsValid}
+use Rattle.dual_simplex.specs.exact_numbers.Number.{numerator, denominator}
+use Rattle.dual_simplex.specs.exact_numbers.declared.number.Mixed.{Mixed}
+use Rattle.dual_simplex.specs.exact_numbers.MixedOrderLaws.{denominator_positive}
+use Rattle.dual_simplex.specs.flow_rules.Net.{net_of, beside}
+use Rattle.dual_simplex.specs.flow_rules.Flows.{cost}
+use Rattle.dual_simplex.specs.flow_rules.Relaxed.{bound}
+use Rattle.dual_simplex.specs.flow_rules.Laws.{WeakDuality}
+use Rattle.node_evaluation.specs.tree_rules.Claim.{Network, size_in}
+use Rattle.node_evaluation.specs.tree_rules.Leaf.{IsBounded}
 use Rattle.certified_bounds.specs.Certified.{cost_over, IsNetworkAt}
-use Rattle.tree_rules.specs.LeastFlows.{decided, rows_of, ProveCost}
+use Rattle.node_evaluation.specs.tree_rules.LeastFlows.{decided, rows_of, ProveCost}
 use Rattle.flow_evaluator.specs.Laws.{ProvedIsLeast}
 use Rattle.flow_evaluator.specs.Answers.{IsLeastFor}
 use Rattle.flow_evaluator.proofs.NodeLemmas.{is_between}

@@ -3,23 +3,23 @@ use Rattle.std.proofs.Common.{◌≡◌, ℕ, ◌<◌, ◌==◌, ◌≤◌, ℤ,
 use Rattle.std.proofs.Common.{length, Some, IfSome, Option, None, inl, inr, sym, subst, arith}
 use Rattle.std.proofs.lemmas.Bool.{or_right}
 use Rattle.std.proofs.lemmas.List.{length-map}
-use Rattle.link_lists.proofs.Cells.{has-here}
-use Rattle.number_sets.specs.Sets.{has, AreBelow}
-use Rattle.integer_laws.specs.Range.{InRange, AllInRange}
-use Rattle.problem_rules.specs.Each.{Each}
-use Rattle.problem_rules.specs.Problem.{Problem}
-use Rattle.pns_rules.specs.Shape.{Shape, shape_of}
-use Rattle.pns_rules.specs.Nodes.{Node}
-use Rattle.flow_rules.specs.Cover as rules
-use Rattle.flow_rules.specs.Cover.{IsCover, IsFree, Covers}
-use Rattle.flow_rules.specs.ChargeLeaf.{CoversPass}
-use Rattle.charges.specs.Sets.{AreBesideSmall}
-use Rattle.pgraph.specs.declared.cover.Cover.{Cover}
-use Rattle.pgraph.specs.CoversView.{cover_of, covers_of}
-use Rattle.pgraph.specs.Kept.{IsKept, AreKept}
-use Rattle.tree_rules.specs.Claim.{CostOver, IsAtLeast}
-use Rattle.tree_rules.specs.Leaf.{Scaled, IsOneEach}
-use Rattle.tree_rules.specs.Known.{KnowsCover, IsUnit}
+use Rattle.node_evaluation.proofs.link_lists.Cited.{has-here}
+use Rattle.dual_simplex.specs.number_sets.Sets.{has, AreBelow}
+use Rattle.dual_simplex.specs.integer_laws.Range.{InRange, AllInRange}
+use Rattle.dual_simplex.specs.problem_rules.Each.{Each}
+use Rattle.dual_simplex.specs.problem_rules.Problem.{Problem}
+use Rattle.dual_simplex.specs.pns_rules.Shape.{Shape, shape_of}
+use Rattle.dual_simplex.specs.pns_rules.Nodes.{Node}
+use Rattle.dual_simplex.specs.flow_rules.Cover as rules
+use Rattle.dual_simplex.specs.flow_rules.Cover.{IsCover, IsFree, Covers}
+use Rattle.dual_simplex.specs.flow_rules.ChargeLeaf.{CoversPass}
+use Rattle.certified_bounds.specs.charges.Sets.{AreBesideSmall}
+use Rattle.dual_simplex.specs.pgraph.declared.cover.Cover.{Cover}
+use Rattle.dual_simplex.specs.pgraph.CoversView.{cover_of, covers_of}
+use Rattle.dual_simplex.specs.pgraph.Kept.{IsKept, AreKept}
+use Rattle.node_evaluation.specs.tree_rules.Claim.{CostOver, IsAtLeast}
+use Rattle.node_evaluation.specs.tree_rules.Leaf.{Scaled, IsOneEach}
+use Rattle.node_evaluation.specs.tree_rules.Known.{KnowsCover, IsUnit}
 use Rattle.node_evaluation.specs.Evaluated.{IsChargeOf}
 use Rattle.flow_evaluator.specs.Charging.{IsFit, AreFit, IsOwnCharge, ReachesWith}
 

@@ -3,14 +3,15 @@ use Rattle.std.proofs.Common.{◌≡◌, ℕ, ◌<◌, Bool, true, false, not, �
 use Rattle.std.proofs.Common.{◌∙◌, inl, inr}
 use Rattle.std.proofs.lemmas.Bool.{or_cases, or_left, and_parts, and_from, both_ways}
 use Rattle.std.proofs.lemmas.Bool.{false_from_ne_true, not-true}
-use Rattle.number_sets.specs.Sets.{has}
-use Rattle.problem_rules.specs.Problem.{Problem}
-use Rattle.pns_rules.specs.Shape.{shape_of, IsProper}
-use Rattle.pns_rules.specs.Structure.{is_made, is_used, mats, IsStructure, IsAllowed}
-use Rattle.pns_rules.specs.Nodes.{Step, raw, rival, starve, loose, sole, IsPossible, is_free}
-use Rattle.pns_rules.specs.Ends.{IsSound, IsDead, IsDecided}
-use Rattle.pns_rules.proofs.StructureLemmas.{raw_unmade, a_maker}
-use Rattle.tree_rules.specs.LeastFlows.{decided}
+use Rattle.dual_simplex.specs.number_sets.Sets.{has}
+use Rattle.dual_simplex.specs.problem_rules.Problem.{Problem}
+use Rattle.dual_simplex.specs.pns_rules.Shape.{shape_of, IsProper}
+use Rattle.dual_simplex.specs.pns_rules.Structure.{is_made, is_used, mats, IsStructure, IsAllowed}
+use Rattle.dual_simplex.specs.pns_rules.Nodes.{Step, raw, rival, starve, loose, sole, IsPossible}
+use Rattle.dual_simplex.specs.pns_rules.Nodes.{is_free}
+use Rattle.dual_simplex.specs.pns_rules.Ends.{IsSound, IsDead, IsDecided}
+use Rattle.dual_simplex.proofs.pns_rules.Cited.{raw_unmade, a_maker}
+use Rattle.node_evaluation.specs.tree_rules.LeastFlows.{decided}
 use Rattle.flow_evaluator.proofs.NodeLemmas.{outside_is, is_between}
 
 neither : (b : Bool) → (not b && not (not b)) ≡ false

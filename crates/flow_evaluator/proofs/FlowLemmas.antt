@@ -3,38 +3,38 @@ use Rattle.std.proofs.Common.{◌≡◌, ℕ, Bool, true, false, not, ℤ, pos, 
 use Rattle.std.proofs.Common.{length, Some, None, refl, sym, ap, ◌∙◌, subst, arith}
 use Rattle.std.specs.Prelude.{◌&&◌}
 use Rattle.std.proofs.lemmas.Int.{ints}
-use Rattle.number_sets.specs.Sets.{has, IsRising}
-use Rattle.number_sets.proofs.SetLemmas.{below_from, listed-is}
-use Rattle.integer_laws.specs.Range.{InRange}
-use Rattle.problem_rules.specs.Problem.{Problem}
-use Rattle.problem_rules.specs.Validity.{IsValid}
-use Rattle.pns_rules.specs.Shape.{shape_of}
-use Rattle.pns_rules.specs.Ends.{IsSound, IsDecided}
-use Rattle.pns_rules.specs.Nodes as rules
-use Rattle.pgraph.specs.View.{node_of}
-use Rattle.unit_sets.specs.declared.node.Node.{Node}
-use Rattle.exact_numbers.specs.declared.number.Mixed.{Mixed}
-use Rattle.exact_numbers.specs.Number.{numerator, denominator}
-use Rattle.exact_numbers.specs.MixedOrderLaws.{denominator_positive}
-use Rattle.tree_rules.specs.Leaf.{Scaled}
-use Rattle.flow_rules.specs.Net.{net_of, beside}
-use Rattle.flow_rules.specs.Flows.{IsFlows, cost}
-use Rattle.flow_rules.specs.Program.{Program, program_of}
-use Rattle.flow_rules.specs.Relaxed.{bound, units}
-use Rattle.flow_rules.specs.Steps.{AreInRange, last_from}
-use Rattle.flow_rules.specs.CostSteps.{cost_steps}
-use Rattle.flow_rules.specs.FeasibleSteps.{feasible_steps}
-use Rattle.path_laws.specs.Ends.{IsSplit}
-use Rattle.tree_rules.specs.Leaf.{bounded, IsFormed, IsBounded, multiplier}
-use Rattle.tree_rules.specs.Claim.{Network, CostOver}
+use Rattle.dual_simplex.specs.number_sets.Sets.{has, IsRising}
+use Rattle.dual_simplex.proofs.number_sets.Cited.{below_from, listed-is}
+use Rattle.dual_simplex.specs.integer_laws.Range.{InRange}
+use Rattle.dual_simplex.specs.problem_rules.Problem.{Problem}
+use Rattle.dual_simplex.specs.problem_rules.Validity.{IsValid}
+use Rattle.dual_simplex.specs.pns_rules.Shape.{shape_of}
+use Rattle.dual_simplex.specs.pns_rules.Ends.{IsSound, IsDecided}
+use Rattle.dual_simplex.specs.pns_rules.Nodes as rules
+use Rattle.dual_simplex.specs.pgraph.View.{node_of}
+use Rattle.dual_simplex.specs.unit_sets.declared.node.Node.{Node}
+use Rattle.dual_simplex.specs.exact_numbers.declared.number.Mixed.{Mixed}
+use Rattle.dual_simplex.specs.exact_numbers.Number.{numerator, denominator}
+use Rattle.dual_simplex.specs.exact_numbers.MixedOrderLaws.{denominator_positive}
+use Rattle.node_evaluation.specs.tree_rules.Leaf.{Scaled}
+use Rattle.dual_simplex.specs.flow_rules.Net.{net_of, beside}
+use Rattle.dual_simplex.specs.flow_rules.Flows.{IsFlows, cost}
+use Rattle.dual_simplex.specs.flow_rules.Program.{Program, program_of}
+use Rattle.dual_simplex.specs.flow_rules.Relaxed.{bound, units}
+use Rattle.dual_simplex.specs.flow_rules.Steps.{AreInRange, last_from}
+use Rattle.dual_simplex.specs.flow_rules.CostSteps.{cost_steps}
+use Rattle.dual_simplex.specs.flow_rules.FeasibleSteps.{feasible_steps}
+use Rattle.dual_simplex.specs.path_laws.Ends.{IsSplit}
+use Rattle.node_evaluation.specs.tree_rules.Leaf.{bounded, IsFormed, IsBounded, multiplier}
+use Rattle.node_evaluation.specs.tree_rules.Claim.{Network, CostOver}
 use Rattle.dual_simplex.specs.Bench.{Bench, IsLeastOf, AreFlowsOf}
 use Rattle.dual_simplex.specs.Laws.{ScaleIsPositive, BoundIsReached, BoundIsLeast}
 use Rattle.dual_simplex.specs.FlowLaws.{UnitsAreInside, SplitFlowsAreFlows, SplitFlowsAreLeast}
-use Rattle.search_tree.specs.Values.{IsPositive}
-use Rattle.search_tree.proofs.GrowLemmas.{leaf_fallen}
+use Rattle.node_evaluation.specs.search_tree.Values.{IsPositive}
+use Rattle.node_evaluation.proofs.search_tree.Cited.{leaf_fallen}
 use Rattle.node_evaluation.specs.Evaluated.{cost_over, IsBoundOf, IsNetworkOf, IsWorth}
-use Rattle.node_evaluation.proofs.LookLemmas.{under_value}
-use Rattle.tree_rules.specs.Past.{IsPastAt}
+use Rattle.node_evaluation.proofs.Cited.{under_value}
+use Rattle.node_evaluation.specs.tree_rules.Past.{IsPastAt}
 use Rattle.flow_evaluator.proofs.ValueLemmas.{kept_le, kept_same, kept_over}
 
 -- the number is the bound that the bench keeps, over its scale

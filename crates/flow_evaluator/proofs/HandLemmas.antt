@@ -4,17 +4,18 @@ use Rattle.std.proofs.Common.{inl, inr, arith, true≢false, Option, Some, None}
 use Rattle.std.proofs.lemmas.Bool.{or_cases, or_right, and_parts, false_from_ne_true, not-true}
 use Rattle.std.proofs.lemmas.Bool.Decides.{nat_tests}
 use Rattle.std.specs.Prelude.{IfSome}
-use Rattle.number_sets.specs.Sets.{has, with_number, union, meet, minus, IsWithin, Avoids}
-use Rattle.number_sets.proofs.SetLemmas.{has-union, has-meet, has-minus, has-with_number}
-use Rattle.problem_rules.specs.Problem.{Problem}
-use Rattle.pns_rules.specs.Shape.{Shape, shape_of}
-use Rattle.pns_rules.specs.Structure.{IsBetween, InFamily}
-use Rattle.pns_rules.specs.Nodes.{Node}
-use Rattle.tree_rules.specs.Claim.{Network}
+use Rattle.dual_simplex.specs.number_sets.Sets.{has, with_number, union, meet, minus, IsWithin}
+use Rattle.dual_simplex.specs.number_sets.Sets.{Avoids}
+use Rattle.dual_simplex.proofs.number_sets.Cited.{has-union, has-meet, has-minus, has-with_number}
+use Rattle.dual_simplex.specs.problem_rules.Problem.{Problem}
+use Rattle.dual_simplex.specs.pns_rules.Shape.{Shape, shape_of}
+use Rattle.dual_simplex.specs.pns_rules.Structure.{IsBetween, InFamily}
+use Rattle.dual_simplex.specs.pns_rules.Nodes.{Node}
+use Rattle.node_evaluation.specs.tree_rules.Claim.{Network}
 use Rattle.certified_bounds.specs.declared.certified.LeastBound.{LeastBound}
 use Rattle.certified_bounds.specs.declared.certified.Certified.TheVariants.{Flows}
 use Rattle.certified_bounds.specs.Certified.{IsCertified}
-use Rattle.tree_rules.specs.LeastFlows.{decided}
+use Rattle.node_evaluation.specs.tree_rules.LeastFlows.{decided}
 use Rattle.node_evaluation.specs.Evaluated.{IsAtHand}
 
 -- the units that are taken in, and those of a set that are not left out

@@ -1,30 +1,32 @@
 -- Names of units and rows of the program of a node are known to its problem.
 use Rattle.std.proofs.Common.{◌≡◌, Bool, List, [], ◌∷◌, length, Option, Some, None, Result, Ok, Err}
 use Rattle.std.proofs.Common.{IfOk, sym, subst}
-use Rattle.number_sets.proofs.SetLemmas.{has_below, AreBelow-listed}
-use Rattle.problem_rules.specs.Each.{Each}
-use Rattle.problem_rules.specs.Problem.{Problem}
-use Rattle.pns_rules.specs.Nodes.{Node}
-use Rattle.flow_rules.specs.Net.{net_of}
-use Rattle.flow_rules.specs.Program.{Program, program_of}
-use Rattle.flow_rules.specs.Relaxed.{units, rows}
-use Rattle.flow_rules.specs.declared.place.Column.{Column}
-use Rattle.flow_rules.specs.declared.place.Column.TheVariants.{X, S, T, W, Right, Scale}
-use Rattle.flow_rules.specs.declared.place.Place.{Place}
-use Rattle.flow_rules.specs.declared.place.Place.TheVariants.{Entry, Flow, Cost, FlowSum, Bound}
-use Rattle.flow_rules.specs.declared.place.Place.TheVariants.{Refute}
-use Rattle.tree_rules.specs.Known.{KnowsColumn, KnowsRow, KnowsPlace}
+use Rattle.dual_simplex.proofs.number_sets.Cited.{has_below, AreBelow-listed}
+use Rattle.dual_simplex.specs.problem_rules.Each.{Each}
+use Rattle.dual_simplex.specs.problem_rules.Problem.{Problem}
+use Rattle.dual_simplex.specs.pns_rules.Nodes.{Node}
+use Rattle.dual_simplex.specs.flow_rules.Net.{net_of}
+use Rattle.dual_simplex.specs.flow_rules.Program.{Program, program_of}
+use Rattle.dual_simplex.specs.flow_rules.Relaxed.{units, rows}
+use Rattle.dual_simplex.specs.flow_rules.declared.place.Column.{Column}
+use Rattle.dual_simplex.specs.flow_rules.declared.place.Column.TheVariants.{X, S, T, W, Right}
+use Rattle.dual_simplex.specs.flow_rules.declared.place.Column.TheVariants.{Scale}
+use Rattle.dual_simplex.specs.flow_rules.declared.place.Place.{Place}
+use Rattle.dual_simplex.specs.flow_rules.declared.place.Place.TheVariants.{Entry, Flow, Cost}
+use Rattle.dual_simplex.specs.flow_rules.declared.place.Place.TheVariants.{FlowSum, Bound}
+use Rattle.dual_simplex.specs.flow_rules.declared.place.Place.TheVariants.{Refute}
+use Rattle.node_evaluation.specs.tree_rules.Known.{KnowsColumn, KnowsRow, KnowsPlace}
 use Rattle.dual_simplex.specs.Rows.{basis}
 use Rattle.dual_simplex.specs.Bench.{Bench}
-use Rattle.flow_rules.specs.Named.{nonbasic_named}
+use Rattle.dual_simplex.specs.flow_rules.Named.{nonbasic_named}
 use Rattle.dual_simplex.specs.ProgramNames.{IsColumnOf, IsRowOf, IsPlaceOf, NonbasicAreOfProgram}
-use Rattle.tree_rules.specs.Claim.{CostOver}
+use Rattle.node_evaluation.specs.tree_rules.Claim.{CostOver}
 use Rattle.node_evaluation.specs.Evaluated.{IsEvaluated, IsProof}
 use Rattle.node_evaluation.specs.declared.evaluator.Proof.{Proof}
 use Rattle.node_evaluation.specs.declared.evaluator.Proof.TheVariants as proofs
 use Rattle.node_evaluation.specs.declared.evaluator.Evaluation.{Evaluation}
 use Rattle.node_evaluation.specs.declared.evaluator.Evaluation.TheVariants.{Stopped}
-use Rattle.tree_rules.specs.Past.{IsPastAt}
+use Rattle.node_evaluation.specs.tree_rules.Past.{IsPastAt}
 
 module _ (p : Problem) (n : Node) where
   abbrev own : Program

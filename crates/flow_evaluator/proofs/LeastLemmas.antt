@@ -1,8 +1,7 @@
 -- What the bound of multipliers says of the cost of flows.
 use Rattle.std.proofs.Common.{◌≡◌, ℤ, pos, ◌*ℤ◌, ◌≤ℤ◌, ◌<ℤ◌, ap, ◌∙◌, subst, arith}
 use Rattle.std.proofs.lemmas.Int.{ints}
-use Rattle.integer_laws.proofs.Ring.{V, ◌⊗◌, ring}
-use Rattle.integer_laws.proofs.Order.{mul-le_left, cancel_le}
+use Rattle.dual_simplex.proofs.integer_laws.Cited.{V, ◌⊗◌, ring, mul-le_left, cancel_le}
 
 -- With flows over a that cost c and a bound b with a * b = d * c, others over e cost at least as
 -- much: e * b ≤ d * k.

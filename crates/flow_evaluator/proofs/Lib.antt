@@ -11,3 +11,7 @@ pub mod RoomLemmas
 pub mod StructureKnownLemmas
 pub mod ToldLemmas
 pub mod ValueLemmas
+pub use Rattle.dual_simplex.proofs.exact_numbers as exact_numbers
+pub use Rattle.dual_simplex.proofs.pns_problem as pns_problem
+pub use Rattle.dual_simplex.proofs.flow_program as flow_program
+pub use Rattle.dual_simplex.proofs.path_laws as path_laws

@@ -3,14 +3,14 @@ use Rattle.std.proofs.Common.{◌≡◌, ℕ, ◌<◌, Bool, true, false, not, L
 use Rattle.std.proofs.Common.{arith}
 use Rattle.std.specs.Prelude.{◌&&◌, nat_lt}
 use Rattle.std.proofs.lemmas.Bool.Decides.{nat_tests}
-use Rattle.number_sets.specs.Sets.{has, IsSet}
-use Rattle.number_sets.proofs.SetLemmas.{listed-same, listed-is}
-use Rattle.problem_rules.specs.Problem.{Problem}
-use Rattle.pns_rules.specs.Shape.{shape_of}
-use Rattle.pns_rules.specs.Structure.{IsStructure, IsBetween}
-use Rattle.flow_rules.specs.Net.{net_of}
-use Rattle.flow_rules.specs.Relaxed.{units, stays}
-use Rattle.tree_rules.specs.LeastFlows.{decided}
+use Rattle.dual_simplex.specs.number_sets.Sets.{has, IsSet}
+use Rattle.dual_simplex.proofs.number_sets.Cited.{listed-same, listed-is}
+use Rattle.dual_simplex.specs.problem_rules.Problem.{Problem}
+use Rattle.dual_simplex.specs.pns_rules.Shape.{shape_of}
+use Rattle.dual_simplex.specs.pns_rules.Structure.{IsStructure, IsBetween}
+use Rattle.dual_simplex.specs.flow_rules.Net.{net_of}
+use Rattle.dual_simplex.specs.flow_rules.Relaxed.{units, stays}
+use Rattle.node_evaluation.specs.tree_rules.LeastFlows.{decided}
 
 below_is : (i n : ℕ) (b : Bool) → i < n → (nat_lt i n && b) ≡ b
 below_is i n b h = let e : nat_lt i n ≡ true = grind (arith, nat_tests) in rw e refl

@@ -1,9 +1,9 @@
 -- An evaluator goes over to another problem of the same size.
 use Rattle.std.specs.Prelude.{OnOk}
 use Rattle.std.proofs.Common.{◌≡◌, ℕ, length, Result, Ok, Err, subst}
-use Rattle.problem_rules.specs.Problem.{Problem}
-use Rattle.flow_rules.specs.Net.{net_of}
-use Rattle.scaled_flows.specs.Divisors.{AreDivisors}
+use Rattle.dual_simplex.specs.problem_rules.Problem.{Problem}
+use Rattle.dual_simplex.specs.flow_rules.Net.{net_of}
+use Rattle.certified_bounds.specs.scaled_flows.Divisors.{AreDivisors}
 use Rattle.dual_simplex.specs.Bench.{Bench, HasRoom}
 use Rattle.flow_evaluator.specs.Evaluating.{Evaluating, IsFor}
 

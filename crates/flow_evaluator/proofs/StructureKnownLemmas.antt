@@ -4,22 +4,25 @@ use Rattle.std.proofs.Common.{◌≡◌, ℕ, ◌+◌, ◌-◌, ◌<◌, ◌≤�
 use Rattle.std.proofs.Common.{length, map, refl, subst, sym, arith, Some, None}
 use Rattle.std.specs.Prelude.{nat_lt, nat_eq}
 use Rattle.std.proofs.lemmas.Bool.Decides.{nat_tests}
-use Rattle.number_sets.proofs.SetLemmas.{has_below, AreBelow-listed}
-use Rattle.integer_laws.specs.declared.which.Which.{Which}
-use Rattle.problem_rules.specs.Each.{Each}
-use Rattle.problem_rules.specs.Problem.{Problem}
-use Rattle.pns_rules.specs.Nodes.{Node}
-use Rattle.flow_rules.specs.Net.{net_of}
-use Rattle.flow_rules.specs.Program.{Program, program_of}
-use Rattle.flow_rules.specs.declared.place.Column.TheVariants.{X, S, T, W, Right, Scale}
-use Rattle.flow_rules.specs.LinearProgram.{linear_of}
-use Rattle.flow_rules.specs.Columns.{Basis, scale_at}
-use Rattle.flow_rules.specs.Places as path
-use Rattle.flow_rules.specs.ReadFlows.{FlowStep}
-use Rattle.path_laws.proofs.PlaceLemmas.{has_at}
-use Rattle.tree_rules.specs.Known.{IsUnit, IsMaterial, KnowsColumn, KnowsRow, KnowsPlace}
-use Rattle.flow_rules.specs.Named.{unit_named, row_named, named_at, column_named, nonbasic_named}
-use Rattle.flow_rules.specs.Named.{place_named}
+use Rattle.dual_simplex.proofs.number_sets.Cited.{has_below, AreBelow-listed}
+use Rattle.dual_simplex.specs.integer_laws.declared.which.Which.{Which}
+use Rattle.dual_simplex.specs.problem_rules.Each.{Each}
+use Rattle.dual_simplex.specs.problem_rules.Problem.{Problem}
+use Rattle.dual_simplex.specs.pns_rules.Nodes.{Node}
+use Rattle.dual_simplex.specs.flow_rules.Net.{net_of}
+use Rattle.dual_simplex.specs.flow_rules.Program.{Program, program_of}
+use Rattle.dual_simplex.specs.flow_rules.declared.place.Column.TheVariants.{X, S, T, W, Right}
+use Rattle.dual_simplex.specs.flow_rules.declared.place.Column.TheVariants.{Scale}
+use Rattle.dual_simplex.specs.flow_rules.LinearProgram.{linear_of}
+use Rattle.dual_simplex.specs.flow_rules.Columns.{Basis, scale_at}
+use Rattle.dual_simplex.specs.flow_rules.Places as path
+use Rattle.dual_simplex.specs.flow_rules.ReadFlows.{FlowStep}
+use Rattle.dual_simplex.proofs.path_laws.Cited.{has_at}
+use Rattle.node_evaluation.specs.tree_rules.Known.{IsUnit, IsMaterial, KnowsColumn, KnowsRow}
+use Rattle.node_evaluation.specs.tree_rules.Known.{KnowsPlace}
+use Rattle.dual_simplex.specs.flow_rules.Named.{unit_named, row_named, named_at, column_named}
+use Rattle.dual_simplex.specs.flow_rules.Named.{nonbasic_named}
+use Rattle.dual_simplex.specs.flow_rules.Named.{place_named}
 
 -- the units and the rows of the program are units and materials of the problem
 record Knows (p : Problem) (q : Program) : Type 0 where

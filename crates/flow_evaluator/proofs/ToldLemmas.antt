@@ -2,14 +2,14 @@
 use Rattle.std.proofs.Common.{◌≡◌, Bool, true, false, Some, None, refl, ℤ, pos, ◌*ℤ◌, ◌≤ℤ◌, sym}
 use Rattle.std.proofs.Common.{subst, arith}
 use Rattle.std.proofs.lemmas.Int.{ints}
-use Rattle.problem_rules.specs.Problem.{Problem}
-use Rattle.pns_rules.specs.Nodes.{Node}
-use Rattle.exact_numbers.specs.declared.number.Mixed.{Mixed}
-use Rattle.exact_numbers.specs.Number.{numerator, denominator}
-use Rattle.exact_numbers.specs.MixedOrderLaws.{denominator_positive}
-use Rattle.flow_rules.specs.Laws.{RelaxedDuality}
-use Rattle.tree_rules.specs.Claim.{Network}
-use Rattle.tree_rules.specs.Costs.{IsNoMore}
+use Rattle.dual_simplex.specs.problem_rules.Problem.{Problem}
+use Rattle.dual_simplex.specs.pns_rules.Nodes.{Node}
+use Rattle.dual_simplex.specs.exact_numbers.declared.number.Mixed.{Mixed}
+use Rattle.dual_simplex.specs.exact_numbers.Number.{numerator, denominator}
+use Rattle.dual_simplex.specs.exact_numbers.MixedOrderLaws.{denominator_positive}
+use Rattle.dual_simplex.specs.flow_rules.Laws.{RelaxedDuality}
+use Rattle.node_evaluation.specs.tree_rules.Claim.{Network}
+use Rattle.node_evaluation.specs.tree_rules.Costs.{IsNoMore}
 use Rattle.certified_bounds.specs.declared.certified.Between.{Between}
 use Rattle.certified_bounds.specs.declared.certified.LeastBound.{LeastBound}
 use Rattle.certified_bounds.specs.declared.certified.LowBound.{LowBound}
@@ -19,12 +19,12 @@ use Rattle.certified_bounds.specs.declared.certified.Certified.{Certified}
 use Rattle.certified_bounds.specs.declared.certified.Certified.TheVariants.{Least, Flows}
 use Rattle.certified_bounds.specs.Certified.{IsCertified, IsBetween, IsLeastBound, IsNetworkAt}
 use Rattle.certified_bounds.specs.Certified.{IsFirstBound}
-use Rattle.certified_bounds.proofs.BoundLemmas.{bounded_under}
+use Rattle.certified_bounds.proofs.Cited.{bounded_under}
 use Rattle.node_evaluation.specs.declared.evaluator.PastStop.{PastStop}
 use Rattle.node_evaluation.specs.declared.evaluator.Bound.{Bound}
 use Rattle.node_evaluation.specs.Evaluated.{cost_over, cost_in, IsLowerBoundOf, IsBoundOf}
 use Rattle.node_evaluation.specs.Evaluated.{IsNetworkOf, HasUnits}
-use Rattle.tree_rules.specs.Past.{IsPastAt}
+use Rattle.node_evaluation.specs.tree_rules.Past.{IsPastAt}
 
 abbrev pub bound_from : LeastBound → Bound
 bound_from b = record { value = b.value; low = b.low; scaled = b.scaled; interval = None }

@@ -1,6 +1,6 @@
 -- The bound of the multipliers over their scale is the least cost of relaxed flows.
 use Rattle.std.proofs.Common.{◌≡◌, ℤ, ◌*ℤ◌, ◌≤ℤ◌, sym, ◌∙◌, subst}
-use Rattle.integer_laws.proofs.Ring.{mul_comm_z}
+use Rattle.dual_simplex.proofs.integer_laws.Cited.{mul_comm_z}
 
 -- x / y is p / q
 module _ (x y p q : ℤ) (same : (p ≡ x) × (q ≡ y)) where

@@ -1,15 +1,15 @@
 -- What the call answers for a set of units, and what it promises of each answer.
 use Rattle.std.specs.Prelude.{◌≡◌, ℕ, ℤ, List}
-use Rattle.integer_laws.specs.Range.{InRange}
-use Rattle.problem_rules.specs.Each.{Each}
-use Rattle.problem_rules.specs.Problem.{Problem}
-use Rattle.flow_rules.specs.Net.{net_of}
-use Rattle.tree_rules.specs.Claim.{Network}
-use Rattle.flow_rules.specs.declared.place.Column.{Column}
-use Rattle.flow_rules.specs.declared.place.Place.{Place}
-use Rattle.tree_rules.specs.Known.{KnowsColumn, KnowsPlace}
-use Rattle.flow_rules.specs.PastPlace.{IsPastNamed}
-use Rattle.tree_rules.specs.LeastFlows.{decided, IsLeastFlows, HasNoFlows}
+use Rattle.dual_simplex.specs.integer_laws.Range.{InRange}
+use Rattle.dual_simplex.specs.problem_rules.Each.{Each}
+use Rattle.dual_simplex.specs.problem_rules.Problem.{Problem}
+use Rattle.dual_simplex.specs.flow_rules.Net.{net_of}
+use Rattle.node_evaluation.specs.tree_rules.Claim.{Network}
+use Rattle.dual_simplex.specs.flow_rules.declared.place.Column.{Column}
+use Rattle.dual_simplex.specs.flow_rules.declared.place.Place.{Place}
+use Rattle.node_evaluation.specs.tree_rules.Known.{KnowsColumn, KnowsPlace}
+use Rattle.dual_simplex.specs.flow_rules.PastPlace.{IsPastNamed}
+use Rattle.node_evaluation.specs.tree_rules.LeastFlows.{decided, IsLeastFlows, HasNoFlows}
 use Rattle.flow_evaluator.specs.declared.answer.StructureFlows.{StructureFlows}
 use Rattle.flow_evaluator.specs.declared.answer.StructureFlows.TheVariants.{Least, Refuted, Past}
 

@@ -1,18 +1,18 @@
 -- A charge of a node as it is judged: covers that are fit, and what they reach.
 use Rattle.std.specs.Prelude.{◌≡◌, ℤ, pos, ◌≤ℤ◌, ◌≤◌, List, length, Some}
-use Rattle.problem_rules.specs.Each.{Each}
-use Rattle.problem_rules.specs.Problem.{Problem}
-use Rattle.pns_rules.specs.Shape.{shape_of}
-use Rattle.pns_rules.specs.Nodes.{Node}
-use Rattle.flow_rules.specs.Net.{net_of}
-use Rattle.flow_rules.specs.ChargeFacts.{own_facts}
-use Rattle.flow_rules.specs.Cover.{Cover}
-use Rattle.flow_rules.specs.ChargeLeaf as charges
-use Rattle.flow_rules.specs.ChargeLeaf.{Handed, CoverPasses}
-use Rattle.pgraph.specs.Kept.{IsKept}
-use Rattle.tree_rules.specs.Claim.{CostOver, IsAtLeast}
-use Rattle.tree_rules.specs.Leaf.{Scaled, IsOneEach}
-use Rattle.tree_rules.specs.Known.{KnowsCover}
+use Rattle.dual_simplex.specs.problem_rules.Each.{Each}
+use Rattle.dual_simplex.specs.problem_rules.Problem.{Problem}
+use Rattle.dual_simplex.specs.pns_rules.Shape.{shape_of}
+use Rattle.dual_simplex.specs.pns_rules.Nodes.{Node}
+use Rattle.dual_simplex.specs.flow_rules.Net.{net_of}
+use Rattle.dual_simplex.specs.flow_rules.ChargeFacts.{own_facts}
+use Rattle.dual_simplex.specs.flow_rules.Cover.{Cover}
+use Rattle.dual_simplex.specs.flow_rules.ChargeLeaf as charges
+use Rattle.dual_simplex.specs.flow_rules.ChargeLeaf.{Handed, CoverPasses}
+use Rattle.dual_simplex.specs.pgraph.Kept.{IsKept}
+use Rattle.node_evaluation.specs.tree_rules.Claim.{CostOver, IsAtLeast}
+use Rattle.node_evaluation.specs.tree_rules.Leaf.{Scaled, IsOneEach}
+use Rattle.node_evaluation.specs.tree_rules.Known.{KnowsCover}
 
 -- each structure of the node has a unit of the set, and its numbers are in range
 pub record IsFit (p : Problem) (n : Node) (c : Cover) : Type 0 where

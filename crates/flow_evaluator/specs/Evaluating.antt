@@ -1,9 +1,9 @@
 -- What an evaluator keeps: common divisors of the numbers of its problem, the bench on which paths
 -- are walked, and for how many units and materials it has room.
 use Rattle.std.specs.Prelude.{◌≡◌, ℕ, length}
-use Rattle.problem_rules.specs.Problem.{Problem}
-use Rattle.flow_rules.specs.Net.{net_of}
-use Rattle.scaled_flows.specs.Divisors.{Divisors, AreDivisors}
+use Rattle.dual_simplex.specs.problem_rules.Problem.{Problem}
+use Rattle.dual_simplex.specs.flow_rules.Net.{net_of}
+use Rattle.certified_bounds.specs.scaled_flows.Divisors.{Divisors, AreDivisors}
 use Rattle.dual_simplex.specs.Bench.{Bench, HasRoom}
 
 pub record Evaluating : Type 0 where

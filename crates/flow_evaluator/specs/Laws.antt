@@ -2,17 +2,18 @@
 -- its contract. They hold for every valid problem and every solution structure of it, clash-free or
 -- not.
 use Rattle.std.specs.Prelude.{◌≡◌, ℕ, ◌<◌, List, ℤ, length, not}
-use Rattle.number_sets.specs.Sets.{has, IsSet}
-use Rattle.problem_rules.specs.Problem.{Problem}
-use Rattle.problem_rules.specs.Validity.{IsValid}
-use Rattle.pns_rules.specs.Shape.{shape_of}
-use Rattle.pns_rules.specs.Structure.{IsStructure, IsAllowed}
-use Rattle.pns_rules.specs.Ends.{IsSound, IsDecided}
-use Rattle.flow_rules.specs.Net.{net_of, beside}
-use Rattle.flow_rules.specs.Relaxed.{units, Refutes}
-use Rattle.tree_rules.specs.Claim.{Network}
-use Rattle.tree_rules.specs.LeastFlows.{decided, rows_of, HasFlows, ProveCost, IsLeastFlows}
-use Rattle.tree_rules.specs.LeastFlows.{HasNoFlows}
+use Rattle.dual_simplex.specs.number_sets.Sets.{has, IsSet}
+use Rattle.dual_simplex.specs.problem_rules.Problem.{Problem}
+use Rattle.dual_simplex.specs.problem_rules.Validity.{IsValid}
+use Rattle.dual_simplex.specs.pns_rules.Shape.{shape_of}
+use Rattle.dual_simplex.specs.pns_rules.Structure.{IsStructure, IsAllowed}
+use Rattle.dual_simplex.specs.pns_rules.Ends.{IsSound, IsDecided}
+use Rattle.dual_simplex.specs.flow_rules.Net.{net_of, beside}
+use Rattle.dual_simplex.specs.flow_rules.Relaxed.{units, Refutes}
+use Rattle.node_evaluation.specs.tree_rules.Claim.{Network}
+use Rattle.node_evaluation.specs.tree_rules.LeastFlows.{decided, rows_of, HasFlows, ProveCost}
+use Rattle.node_evaluation.specs.tree_rules.LeastFlows.{IsLeastFlows}
+use Rattle.node_evaluation.specs.tree_rules.LeastFlows.{HasNoFlows}
 
 -- flows whose cost is the bound of multipliers are least
 abbrev pub ProvedIsLeast : Type 0

@@ -1,6 +1,6 @@
+use dual_simplex::Place;
+use node_evaluation::{Columns, Multipliers, Network, Scaled};
 // The answers for the flows of a solution structure.
-use branch_tree::{Columns, Multipliers, Network, Scaled};
-use flow_rules::Place;
 
 /// The answer for the flows of a solution structure.
 #[derive(Drop)]

@@ -1,35 +1,29 @@
 //! What the last basis of a node's path gives.
 ghost use Rattle.std.specs.Prelude.{◌≡◌, ◌≤ℤ◌, Bool, true, pos, length, None, IfOk};
-ghost use Rattle.exact_numbers.specs.Number.{numerator, denominator};
-ghost use Rattle.integer_laws.specs.Range.{InRange, AllInRange};
-ghost use Rattle.pns_rules.specs.Shape.{shape_of};
-ghost use Rattle.pns_rules.specs.Ends.{IsSound, IsDecided};
-ghost use Rattle.pgraph.specs.View.{node_of};
-ghost use Rattle.flow_rules.specs.Net.{net_of};
-ghost use Rattle.flow_rules.specs.Program.{program_of};
-ghost use Rattle.flow_rules.specs.Relaxed.{bound};
-ghost use Rattle.tree_rules.specs.Leaf.{IsFormed, multiplier};
+ghost use Rattle.dual_simplex.specs.exact_numbers.Number.{numerator, denominator};
+ghost use Rattle.dual_simplex.specs.integer_laws.Range.{InRange, AllInRange};
+ghost use Rattle.dual_simplex.specs.pns_rules.Shape.{shape_of};
+ghost use Rattle.dual_simplex.specs.pns_rules.Ends.{IsSound, IsDecided};
+ghost use Rattle.dual_simplex.specs.pgraph.View.{node_of};
+ghost use Rattle.dual_simplex.specs.flow_rules.Net.{net_of};
+ghost use Rattle.dual_simplex.specs.flow_rules.Program.{program_of};
+ghost use Rattle.dual_simplex.specs.flow_rules.Relaxed.{bound};
+ghost use Rattle.node_evaluation.specs.tree_rules.Leaf.{IsFormed, multiplier};
 ghost use Rattle.dual_simplex.specs.Bench.{IsLeastOf, IsNoneOf};
-ghost use Rattle.tree_rules.specs.Claim.{CostOver};
-ghost use Rattle.search_tree.specs.Values.{IsPositive};
+ghost use Rattle.node_evaluation.specs.tree_rules.Claim.{CostOver};
+ghost use Rattle.node_evaluation.specs.search_tree.Values.{IsPositive};
 ghost use Rattle.node_evaluation.specs.Evaluated.{IsEvaluated, IsWorth, IsProof};
 ghost use Rattle.node_evaluation.specs.declared.evaluator.Evaluation.TheVariants.{Stopped};
 ghost use Rattle.node_evaluation.specs.declared.evaluator.Proof.TheVariants as proofs;
-ghost use Rattle.tree_rules.specs.Past.{IsPastAt};
+ghost use Rattle.node_evaluation.specs.tree_rules.Past.{IsPastAt};
 
 use crate::sums::{cost_of_flows, form_refutation, value_of};
-use branch_tree::{Columns, Multipliers, Network, Scaled};
 use dual_simplex::{
-    Bench, flow_is_past, least_is_least, names_are_of_program, none_is_refuted,
-    split_flows_are_least,
+    Bench, Mixed, Node, Place, Program, Site, flow_is_past, least_is_least, names_are_of_program,
+    none_is_refuted, split_flows_are_least,
 };
-use flow_program::Program;
-use flow_rules::Place;
-use exact_numbers::Mixed;
-use node_evaluation::{Bound, Evaluation, PastStop, Proof};
-use pgraph::Site;
+use node_evaluation::{Bound, Columns, Evaluation, Multipliers, Network, PastStop, Proof, Scaled};
 use std::alloc::{AllocError, Global};
-use unit_sets::Node;
 
 /// A place at which a number overflows, with the columns outside the basis that the bench keeps.
 fn stop_at(alloc: Global, bench: &Bench, place: Place) -> Result<PastStop, AllocError>

@@ -1,18 +1,15 @@
 //! A trial structure at a node: a solution structure that has the units that run at the node's last
 //! flows.
 ghost use Rattle.std.specs.Prelude.{◌≡◌, ◌<◌, ℕ, true, IsTrue, IfSome};
-ghost use Rattle.number_sets.specs.Sets.{has, IsWithin, Avoids};
-ghost use Rattle.pns_rules.specs.Shape.{shape_of};
-ghost use Rattle.pns_rules.specs.Structure.{IsStructure, IsBetween, InFamily};
-ghost use Rattle.pns_rules.specs.Ends.{IsSound};
-ghost use Rattle.pgraph.specs.Tables.{shape};
-ghost use Rattle.pgraph.specs.View.{node_of};
+ghost use Rattle.dual_simplex.specs.number_sets.Sets.{has, IsWithin, Avoids};
+ghost use Rattle.dual_simplex.specs.pns_rules.Shape.{shape_of};
+ghost use Rattle.dual_simplex.specs.pns_rules.Structure.{IsStructure, IsBetween, InFamily};
+ghost use Rattle.dual_simplex.specs.pns_rules.Ends.{IsSound};
+ghost use Rattle.dual_simplex.specs.pgraph.Tables.{shape};
+ghost use Rattle.dual_simplex.specs.pgraph.View.{node_of};
 
-use structure_list::maximal;
-use pgraph::{Graph, Site};
-use pns_problem::OperatingUnit;
-use pns_rules::Verdict;
-use unit_sets::{Node, UnitSet};
+use dual_simplex::{Graph, Node, OperatingUnit, Site, UnitSet, Verdict};
+use node_evaluation::maximal;
 
 /// The free units that run, and those that owe a part of their fixed cost at their sizes, whether
 /// they run or not.

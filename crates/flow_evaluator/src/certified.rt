@@ -1,24 +1,21 @@
 // The flows of a clash-free set of units, without the path of its program.
 ghost use Rattle.std.specs.Prelude.{◌≡◌, ◌<◌, ℕ, length, true, IfOk, IfSome};
-ghost use Rattle.number_sets.specs.Sets.{has};
-ghost use Rattle.pns_rules.specs.Shape.{shape_of};
-ghost use Rattle.pns_rules.specs.Structure.{IsStructure};
-ghost use Rattle.tree_rules.specs.Leaf.{IsRefuted};
+ghost use Rattle.dual_simplex.specs.number_sets.Sets.{has};
+ghost use Rattle.dual_simplex.specs.pns_rules.Shape.{shape_of};
+ghost use Rattle.dual_simplex.specs.pns_rules.Structure.{IsStructure};
+ghost use Rattle.node_evaluation.specs.tree_rules.Leaf.{IsRefuted};
 ghost use Rattle.certified_bounds.specs.Certified.{IsLeastBound, IsNetworkAt, HasUnits};
 ghost use Rattle.certified_bounds.specs.Certified.{IsCertified};
-ghost use Rattle.tree_rules.specs.LeastFlows.{decided};
+ghost use Rattle.node_evaluation.specs.tree_rules.LeastFlows.{decided};
 ghost use Rattle.flow_evaluator.specs.Answers.{AnswersFor};
 
 use crate::answer::StructureFlows;
 use crate::laws::{allowed_is_decided, multipliers_prove};
 use crate::nodes::node_of;
-use branch_tree::{Multipliers, Network};
 use certified_bounds::{Certified, CertifiedBounds, LeastBound};
-use flow_rules::weak_duality;
-use pgraph::Site;
-use pns_problem::Problem;
+use dual_simplex::{Problem, Site, UnitSet, weak_duality};
+use node_evaluation::{Multipliers, Network};
 use std::alloc::{AllocError, Global};
-use unit_sets::UnitSet;
 
 /// The network with the multipliers of its bound, which is its cost.
 fn least(problem: &Problem, set: UnitSet, bound: LeastBound, network: Network) -> StructureFlows

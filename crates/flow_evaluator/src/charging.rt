@@ -1,30 +1,25 @@
 //! A charge of a node: it is proposed, and then judged exactly.
 ghost use Rattle.std.specs.Prelude.{◌≡◌, ◌<◌, ◌≤◌, ◌≤ℤ◌, ℕ, pos, true, length, Some, IsTrue};
 ghost use Rattle.std.specs.Prelude.{IfOk, IfSome};
-ghost use Rattle.integer_laws.specs.Range.{InRange};
-ghost use Rattle.number_sets.specs.Sets.{has};
-ghost use Rattle.problem_rules.specs.Problem.{Problem};
-ghost use Rattle.pns_rules.specs.Shape.{shape_of};
-ghost use Rattle.pns_rules.specs.Ends.{IsSound};
-ghost use Rattle.pgraph.specs.Tables.{shape};
-ghost use Rattle.pgraph.specs.View.{node_of};
-ghost use Rattle.flow_rules.specs.Net.{net_of};
-ghost use Rattle.flow_rules.specs.Relaxed.{rows};
-ghost use Rattle.pgraph.specs.CoversView.{cover_of, covers_of};
-ghost use Rattle.tree_rules.specs.Claim.{IsAtLeast};
-ghost use Rattle.tree_rules.specs.Leaf.{IsOneEach};
+ghost use Rattle.dual_simplex.specs.integer_laws.Range.{InRange};
+ghost use Rattle.dual_simplex.specs.number_sets.Sets.{has};
+ghost use Rattle.dual_simplex.specs.problem_rules.Problem.{Problem};
+ghost use Rattle.dual_simplex.specs.pns_rules.Shape.{shape_of};
+ghost use Rattle.dual_simplex.specs.pns_rules.Ends.{IsSound};
+ghost use Rattle.dual_simplex.specs.pgraph.Tables.{shape};
+ghost use Rattle.dual_simplex.specs.pgraph.View.{node_of};
+ghost use Rattle.dual_simplex.specs.flow_rules.Net.{net_of};
+ghost use Rattle.dual_simplex.specs.flow_rules.Relaxed.{rows};
+ghost use Rattle.dual_simplex.specs.pgraph.CoversView.{cover_of, covers_of};
+ghost use Rattle.node_evaluation.specs.tree_rules.Claim.{IsAtLeast};
+ghost use Rattle.node_evaluation.specs.tree_rules.Leaf.{IsOneEach};
 ghost use Rattle.node_evaluation.specs.Evaluated.{IsChargeOf, cost_in};
 ghost use Rattle.flow_evaluator.specs.Charging.{IsFit, AreFit, IsOwnCharge, ReachesWith};
 
-use branch_tree::{Network, Scaled};
-use basis_guess::{ChargeGuess, Proposal};
-use charges::{Charge, Facts, charge_of, covers_node, is_cover};
-use pgraph::{Cover, Covers};
-use flow_program::sets_of;
-use node_evaluation::{Charged, is_no_more};
-use pgraph::{Graph, Site};
+use certified_bounds::{Charge, ChargeGuess, Facts, Proposal, charge_of, covers_node, is_cover};
+use dual_simplex::{Cover, Covers, Graph, Node, Site, UnitSet, sets_of};
+use node_evaluation::{Charged, Network, Scaled, is_no_more};
 use std::alloc::{AllocError, Global};
-use unit_sets::{Node, UnitSet};
 
 /// When charges are proposed. It saves time, and nothing is promised of it.
 #[derive(Drop)]

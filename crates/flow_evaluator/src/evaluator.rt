@@ -1,16 +1,16 @@
 //! [`FlowEvaluator`], which evaluates nodes in two ways.
 ghost use Rattle.std.specs.Prelude.{◌≡◌, true, false, length, None, IfOk, IfSome, IsTrue};
-ghost use Rattle.number_sets.specs.Sets.{has};
-ghost use Rattle.pns_rules.specs.Shape.{shape_of};
-ghost use Rattle.pns_rules.specs.Structure.{InFamily};
-ghost use Rattle.pns_rules.specs.Ends.{IsSound, IsReduced, IsDecided};
-ghost use Rattle.pgraph.specs.View.{node_of};
+ghost use Rattle.dual_simplex.specs.number_sets.Sets.{has};
+ghost use Rattle.dual_simplex.specs.pns_rules.Shape.{shape_of};
+ghost use Rattle.dual_simplex.specs.pns_rules.Structure.{InFamily};
+ghost use Rattle.dual_simplex.specs.pns_rules.Ends.{IsSound, IsReduced, IsDecided};
+ghost use Rattle.dual_simplex.specs.pgraph.View.{node_of};
 ghost use Rattle.dual_simplex.specs.Bench.{HasRoom};
-ghost use Rattle.tree_rules.specs.Claim as claims;
-ghost use Rattle.tree_rules.specs.Lean.{MayUndercut};
-ghost use Rattle.search_tree.specs.Values.{IsPositive};
+ghost use Rattle.node_evaluation.specs.tree_rules.Claim as claims;
+ghost use Rattle.node_evaluation.specs.tree_rules.Lean.{MayUndercut};
+ghost use Rattle.node_evaluation.specs.search_tree.Values.{IsPositive};
 ghost use Rattle.node_evaluation.specs.Evaluated.{IsEvaluated, IsWorth, IsProof, IsAtHand};
-ghost use Rattle.tree_rules.specs.Past.{IsPastAt};
+ghost use Rattle.node_evaluation.specs.tree_rules.Past.{IsPastAt};
 ghost use Rattle.flow_evaluator.specs.Evaluating.{IsFor};
 
 use crate::answers::{bounded, proved, refuted, stopped, unproved};
@@ -18,18 +18,15 @@ use crate::at_hand::{running_units, structure_with};
 use crate::charging::Charging;
 use crate::told::{bound_between, evaluation_of, first_look_of};
 use crate::tries::Tries;
-use branch_tree::Network;
+use crate::{allowed_is_decided, node_of};
 use certified_bounds::{Certified, CertifiedBounds};
-use dual_simplex::{Bench, Ends, entry_is_past, names_are_of_program, none_is_refuted};
-use flow_program::Program;
-use flow_rules::{refutation, relaxed_duality};
-use node_evaluation::{Charged, Evaluation, Evaluator, FirstLook, LowerBound, Proof};
-use pgraph::Site;
-use pns_problem::Problem;
+use dual_simplex::{
+    Bench, Ends, Node, Problem, Program, Site, UnitSet, entry_is_past, names_are_of_program,
+    none_is_refuted, refutation, relaxed_duality,
+};
+use node_evaluation::{Charged, Evaluation, Evaluator, FirstLook, LowerBound, Network, Proof};
 use std::alloc::{AllocError, Global};
 use std::marker::Model;
-use crate::{allowed_is_decided, node_of};
-use unit_sets::{Node, UnitSet};
 
 /// Values node after node: by a guess that is judged exactly, and if that finds nothing, by the
 /// path of the node's program. If the path stops, the value is two costs between which the least
@@ -373,7 +370,7 @@ impl FlowEvaluator {
 }
 
 impl Evaluator for FlowEvaluator {
-    ghost use Rattle.tree_rules.specs.Past.{IsPastAt};
+    ghost use Rattle.node_evaluation.specs.tree_rules.Past.{IsPastAt};
     ghost use Rattle.flow_evaluator.specs.Evaluating.{IsFor};
 
     ghost past = { IsPastAt };

@@ -2,8 +2,7 @@
 ghost use Rattle.flow_evaluator.specs.Laws.{ProvedIsLeast, RefutedHasNone, NodeIsDecided};
 ghost use Rattle.flow_evaluator.specs.Laws.{AllowedIsDecided};
 
-use flow_rules::{refutation, weak_duality};
-use pns_rules::valid_is_proper;
+use dual_simplex::{refutation, valid_is_proper, weak_duality};
 
 /// Flows whose cost is the bound of multipliers cost the least of all; and if multipliers refute,
 /// there are none.

@@ -1,32 +1,27 @@
 // The least flows of a set of units.
 ghost use Rattle.std.specs.Prelude.{◌≡◌, ◌<◌, ℕ, length, true, IfOk};
-ghost use Rattle.number_sets.specs.Sets.{has};
-ghost use Rattle.integer_laws.specs.Range.{InRange, AllInRange};
-ghost use Rattle.pns_rules.specs.Shape.{shape_of};
-ghost use Rattle.pns_rules.specs.Structure.{IsStructure};
-ghost use Rattle.flow_rules.specs.Net.{net_of};
-ghost use Rattle.flow_rules.specs.Program.{program_of};
-ghost use Rattle.tree_rules.specs.Known.{KnowsPlace};
+ghost use Rattle.dual_simplex.specs.number_sets.Sets.{has};
+ghost use Rattle.dual_simplex.specs.integer_laws.Range.{InRange, AllInRange};
+ghost use Rattle.dual_simplex.specs.pns_rules.Shape.{shape_of};
+ghost use Rattle.dual_simplex.specs.pns_rules.Structure.{IsStructure};
+ghost use Rattle.dual_simplex.specs.flow_rules.Net.{net_of};
+ghost use Rattle.dual_simplex.specs.flow_rules.Program.{program_of};
+ghost use Rattle.node_evaluation.specs.tree_rules.Known.{KnowsPlace};
 ghost use Rattle.dual_simplex.specs.Bench.{IsLeastOf, IsNoneOf};
 ghost use Rattle.dual_simplex.specs.PastLaws.{IsPastHere};
-ghost use Rattle.tree_rules.specs.LeastFlows.{decided};
+ghost use Rattle.node_evaluation.specs.tree_rules.LeastFlows.{decided};
 ghost use Rattle.flow_evaluator.specs.Answers.{AnswersFor};
 
 use crate::answer::StructureFlows;
 use crate::certified::certified;
 use crate::laws::{multipliers_prove, node_is_decided};
 use crate::nodes::node_of;
-use branch_tree::{Columns, Multipliers, Network, Scaled};
 use dual_simplex::{
-    Bench, Ends, cost_is_past, entry_is_past, flow_is_past, least_is_least, none_is_refuted,
-    split_flows_are_least,
+    Bench, Ends, Place, Problem, Program, Site, UnitSet, cost_is_past, cost_of, entry_is_past,
+    flow_is_past, least_is_least, none_is_refuted, split_flows_are_least, sums_are_last,
 };
-use flow_program::{Program, cost_of};
-use flow_rules::{Place, sums_are_last};
-use pgraph::Site;
-use pns_problem::Problem;
+use node_evaluation::{Columns, Multipliers, Network, Scaled};
 use std::alloc::{AllocError, Global};
-use unit_sets::UnitSet;
 
 fn past(
     alloc: Global,

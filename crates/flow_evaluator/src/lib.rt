@@ -38,7 +38,17 @@ mod told;
 mod tries;
 
 pub use answer::StructureFlows;
+pub use certified_bounds::{Bound, ChargeGuess, Proposal, Range, Ready, Steps, Use, User};
+pub use dual_simplex::{
+    CostOver, Frac, Graph, Kind, MatSet, Material, Node, OperatingUnit, PastSum, Problem, Site,
+    Term, UnitSet, amount_text, checked_difference, checked_product, checked_sum, cost_of,
+    lowest_terms, rate_at, sets_of,
+};
 pub use evaluator::FlowEvaluator;
 pub use laws::{allowed_is_decided, multipliers_prove, node_is_decided};
 pub use least::flows_of;
+pub use node_evaluation::{
+    Claim, Columns, Network, Scaled, Tree, Workspace, accepted_has_flows, accepted_is_optimal,
+    cheaper,
+};
 pub use nodes::node_of;

@@ -1,10 +1,9 @@
 // The node of a set of units.
 ghost use Rattle.std.specs.Prelude.{◌≡◌, ◌<◌, length};
-ghost use Rattle.pgraph.specs.View.{node_of};
-ghost use Rattle.tree_rules.specs.LeastFlows.{decided};
+ghost use Rattle.dual_simplex.specs.pgraph.View.{node_of};
+ghost use Rattle.node_evaluation.specs.tree_rules.LeastFlows.{decided};
 
-use pns_problem::Problem;
-use unit_sets::{Node, UnitSet};
+use dual_simplex::{Node, Problem, UnitSet};
 
 /// The node at which the units are taken in and all others left out.
 pub fn node_of(problem: &Problem, set: UnitSet) -> Node

@@ -1,31 +1,27 @@
 //! The sums over what a bench keeps, each with the place at which it overflows.
 ghost use Rattle.std.specs.Prelude.{◌≡◌, pos, true, IfOk, IfErr, OnOk};
-ghost use Rattle.number_sets.specs.Sets.{has};
-ghost use Rattle.integer_laws.specs.Range.{InRange};
-ghost use Rattle.exact_numbers.specs.Number.{numerator, denominator};
-ghost use Rattle.pns_rules.specs.Shape.{shape_of};
-ghost use Rattle.pns_rules.specs.Ends.{IsSound, IsDecided};
-ghost use Rattle.pgraph.specs.View.{node_of};
-ghost use Rattle.flow_rules.specs.Net.{net_of, beside};
-ghost use Rattle.flow_rules.specs.Flows.{cost};
-ghost use Rattle.flow_rules.specs.Program.{program_of};
-ghost use Rattle.flow_rules.specs.Relaxed.{bound};
-ghost use Rattle.flow_rules.specs.Steps.{AreInRange};
-ghost use Rattle.flow_rules.specs.CostSteps.{cost_steps};
-ghost use Rattle.flow_rules.specs.FeasibleSteps.{feasible_steps};
-ghost use Rattle.tree_rules.specs.Leaf.{IsFormed, multiplier};
+ghost use Rattle.dual_simplex.specs.number_sets.Sets.{has};
+ghost use Rattle.dual_simplex.specs.integer_laws.Range.{InRange};
+ghost use Rattle.dual_simplex.specs.exact_numbers.Number.{numerator, denominator};
+ghost use Rattle.dual_simplex.specs.pns_rules.Shape.{shape_of};
+ghost use Rattle.dual_simplex.specs.pns_rules.Ends.{IsSound, IsDecided};
+ghost use Rattle.dual_simplex.specs.pgraph.View.{node_of};
+ghost use Rattle.dual_simplex.specs.flow_rules.Net.{net_of, beside};
+ghost use Rattle.dual_simplex.specs.flow_rules.Flows.{cost};
+ghost use Rattle.dual_simplex.specs.flow_rules.Program.{program_of};
+ghost use Rattle.dual_simplex.specs.flow_rules.Relaxed.{bound};
+ghost use Rattle.dual_simplex.specs.flow_rules.Steps.{AreInRange};
+ghost use Rattle.dual_simplex.specs.flow_rules.CostSteps.{cost_steps};
+ghost use Rattle.dual_simplex.specs.flow_rules.FeasibleSteps.{feasible_steps};
+ghost use Rattle.node_evaluation.specs.tree_rules.Leaf.{IsFormed, multiplier};
 ghost use Rattle.dual_simplex.specs.Bench.{IsLeastOf, IsNoneOf, AreFlowsOf};
-ghost use Rattle.tree_rules.specs.Past.{IsPastAt};
+ghost use Rattle.node_evaluation.specs.tree_rules.Past.{IsPastAt};
 
 use dual_simplex::{
-    Bench, balance_is_past, bound_is_past, cost_is_past, least_is_least, names_are_of_program,
-    refutation_is_past, split_flows_are_least,
+    Bench, Mixed, Node, Place, Site, balance_is_past, bound_is_past, bound_of, cost_is_past,
+    cost_of, feasible, least_is_least, names_are_of_program, refutation_is_past, refutes,
+    split_flows_are_least, sums_are_last,
 };
-use flow_program::{bound_of, cost_of, feasible, refutes};
-use flow_rules::{Place, sums_are_last};
-use exact_numbers::Mixed;
-use pgraph::Site;
-use unit_sets::Node;
 
 /// After `Least`: the bound of the multipliers over their scale.
 pub(crate) fn value_of(site: &Site<'_>, node: &Node, bench: &Bench) -> Result<Mixed, Place>

@@ -1,10 +1,10 @@
 //! The answers for a node without its path, in the form that a search takes.
 ghost use Rattle.std.specs.Prelude.{◌≡◌, Bool, Some, None, IfSome};
-ghost use Rattle.problem_rules.specs.Problem.{Problem};
-ghost use Rattle.pns_rules.specs.Nodes.{Node};
+ghost use Rattle.dual_simplex.specs.problem_rules.Problem.{Problem};
+ghost use Rattle.dual_simplex.specs.pns_rules.Nodes.{Node};
 ghost use Rattle.certified_bounds.specs.Certified.{IsCertified, IsFirstBound};
 ghost use Rattle.node_evaluation.specs.Evaluated.{IsEvaluated, IsFirstLook};
-ghost use Rattle.tree_rules.specs.Past.{IsPastAt};
+ghost use Rattle.node_evaluation.specs.tree_rules.Past.{IsPastAt};
 
 use certified_bounds::{Between, Certified, FirstBound, LeastBound};
 use node_evaluation::{Bound, Evaluation, FirstLook, Interval, LowerBound, PastStop};

@@ -1,5 +1,5 @@
 //! When the flows of a trial structure are tried. It saves time, and nothing is promised of it.
-use exact_numbers::Mixed;
+use dual_simplex::Mixed;
 use node_evaluation::{Evaluation, FirstLook};
 
 /// What was found so far: what the node is worth that was looked at last, or what it costs at

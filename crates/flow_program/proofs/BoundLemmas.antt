@@ -2,17 +2,16 @@
 use Rattle.std.proofs.Common.{◌≡◌, ℕ, ◌+◌, ◌*◌, ◌-◌, ◌≤◌, List, [], ◌∷◌, ◌++◌, length, refl, sym}
 use Rattle.std.proofs.Common.{ap, ◌∙◌, subst, arith, ℤ, ◌+ℤ◌, ◌-ℤ◌, ◌*ℤ◌}
 use Rattle.std.proofs.lemmas.List.{length-append}
-use Rattle.integer_laws.specs.Range.{InRange}
-use Rattle.integer_laws.specs.Total.{total}
-use Rattle.pns_rules.specs.Nodes.{Node}
-use Rattle.flow_rules.specs.Net.{Net}
-use Rattle.flow_rules.specs.Relaxed.{units, rows, fixed_cost, row_part, unit_part, bound}
-use Rattle.flow_rules.specs.Steps.{AreInRange, IsFirstPast}
-use Rattle.flow_rules.specs.BoundSteps.{least_steps, rows_steps, units_steps, bound_steps}
-use Rattle.flow_rules.specs.BoundSteps.{reduced_steps}
-use Rattle.flow_rules.proofs.LeadingLemmas.{Leads, leads_none, leads_one, leads_part, leads_past_in}
-use Rattle.flow_rules.proofs.LeadingLemmas.{AreInRange-append}
-use Rattle.flow_rules.proofs.SameLemmas.{Agree, bound_steps-same, bound-same}
+use Rattle.exact_numbers.specs.integer_laws.Range.{InRange}
+use Rattle.exact_numbers.specs.integer_laws.Total.{total}
+use Rattle.pgraph.specs.pns_rules.Nodes.{Node}
+use Rattle.pgraph.specs.flow_rules.Net.{Net}
+use Rattle.pgraph.specs.flow_rules.Relaxed.{units, rows, fixed_cost, row_part, unit_part, bound}
+use Rattle.pgraph.specs.flow_rules.Steps.{AreInRange, IsFirstPast}
+use Rattle.pgraph.specs.flow_rules.BoundSteps.{least_steps, rows_steps, units_steps, bound_steps}
+use Rattle.pgraph.specs.flow_rules.BoundSteps.{reduced_steps}
+use Rattle.pgraph.proofs.flow_rules.Cited.{Leads, leads_none, leads_one, leads_part, leads_past_in}
+use Rattle.pgraph.proofs.flow_rules.Cited.{AreInRange-append, Agree, bound_steps-same, bound-same}
 use Rattle.flow_program.specs.Columns.{column_steps, left_of}
 
 length_of_rows : (net : Net) (n : Node) (y : ℕ → ℤ) (js : List ℕ) (sum : ℤ)

@@ -8,29 +8,26 @@ use Rattle.std.specs.Prelude.{IfErr, nat_lt, not, ◌&&◌}
 use Rattle.std.specs.Ordering.{int_eq}
 use Rattle.std.proofs.lemmas.Int.{ints, clamps}
 use Rattle.std.proofs.lemmas.Bool.{lt-ltb}
-use Rattle.integer_laws.specs.Range.{InRange}
-use Rattle.integer_laws.specs.Total.{total}
-use Rattle.integer_laws.proofs.Order.{mul-le_left, mul-le_left_neg}
-use Rattle.integer_laws.proofs.Totals.{total-agree}
-use Rattle.number_sets.specs.Sets.{has, IsSet, IsWithin}
-use Rattle.number_sets.proofs.SetLemmas.{has-listed, same_sets, IsRising-listed}
-use Rattle.problem_rules.specs.Problem.{Problem, rate_of}
-use Rattle.problem_rules.specs.WellFormed.{IsWellFormed}
-use Rattle.pns_rules.specs.Structure.{mats}
-use Rattle.pns_rules.specs.Nodes.{Node}
-use Rattle.flow_rules.specs.Net.{Net, net_of}
-use Rattle.flow_rules.specs.Relaxed.{stays, rows, row_low, row_high, unit_low, unit_cost}
-use Rattle.flow_rules.specs.Relaxed.{reduced_cost, row_part, unit_part}
-use Rattle.flow_rules.specs.Steps.{AreInRange, IsFirstPast}
-use Rattle.flow_rules.specs.BoundSteps.{least_steps, rows_steps, rows_at, reduced_steps, unit_steps}
-use Rattle.flow_rules.specs.BoundSteps.{units_steps}
-use Rattle.flow_rules.proofs.LeadingLemmas.{Leads, leads_none, leads_one, leads_part, leads_past}
-use Rattle.flow_rules.proofs.LeadingLemmas.{leads_past_in, leads_all, leads_same, AreInRange-append}
-use Rattle.flow_rules.proofs.SameLemmas.{all_had, reduced-same}
-use Rattle.flow_rules.proofs.LastLemmas.{total_at_rows}
-use Rattle.flow_rules.proofs.NetLemmas.{net_of_formed}
-use Rattle.flow_rules.proofs.RelaxedLemmas.{rate_of_other}
-use Rattle.flow_rules.proofs.ZeroLemmas.{int_eq_zero, int_eq_other}
+use Rattle.exact_numbers.specs.integer_laws.Range.{InRange}
+use Rattle.exact_numbers.specs.integer_laws.Total.{total}
+use Rattle.exact_numbers.proofs.integer_laws.Cited.{mul-le_left, mul-le_left_neg, total-agree}
+use Rattle.pgraph.specs.number_sets.Sets.{has, IsSet, IsWithin}
+use Rattle.pgraph.proofs.number_sets.Cited.{has-listed, same_sets, IsRising-listed}
+use Rattle.pgraph.specs.problem_rules.Problem.{Problem, rate_of}
+use Rattle.pgraph.specs.problem_rules.WellFormed.{IsWellFormed}
+use Rattle.pgraph.specs.pns_rules.Structure.{mats}
+use Rattle.pgraph.specs.pns_rules.Nodes.{Node}
+use Rattle.pgraph.specs.flow_rules.Net.{Net, net_of}
+use Rattle.pgraph.specs.flow_rules.Relaxed.{stays, rows, row_low, row_high, unit_low, unit_cost}
+use Rattle.pgraph.specs.flow_rules.Relaxed.{reduced_cost, row_part, unit_part}
+use Rattle.pgraph.specs.flow_rules.Steps.{AreInRange, IsFirstPast}
+use Rattle.pgraph.specs.flow_rules.BoundSteps.{least_steps, rows_steps, rows_at, reduced_steps}
+use Rattle.pgraph.specs.flow_rules.BoundSteps.{unit_steps}
+use Rattle.pgraph.specs.flow_rules.BoundSteps.{units_steps}
+use Rattle.pgraph.proofs.flow_rules.Cited.{Leads, leads_none, leads_one, leads_part, leads_past}
+use Rattle.pgraph.proofs.flow_rules.Cited.{leads_past_in, leads_all, leads_same, AreInRange-append}
+use Rattle.pgraph.proofs.flow_rules.Cited.{all_had, reduced-same, total_at_rows, net_of_formed}
+use Rattle.pgraph.proofs.flow_rules.Cited.{rate_of_other, int_eq_zero, int_eq_other}
 use Rattle.flow_program.specs.Columns.{left_of, least_of, column_steps}
 use Rattle.flow_program.specs.Entry.{entry}
 use Rattle.flow_program.specs.Rates.{AreRates}

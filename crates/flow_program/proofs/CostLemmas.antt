@@ -3,13 +3,13 @@ use Rattle.std.proofs.Common.{◌≡◌, ℕ, ◌+◌, ◌*◌, ◌≤◌, ◌^�
 use Rattle.std.proofs.Common.{refl, sym, ap, ◌∙◌, arith, pos, ℤ, ◌+ℤ◌, ◌-ℤ◌, ◌*ℤ◌}
 use Rattle.std.specs.Prelude.{unsigned_abs}
 use Rattle.std.proofs.lemmas.Int.{ints}
-use Rattle.integer_laws.specs.Total.{total, total_below}
-use Rattle.integer_laws.proofs.IndexTotals.{total_below-same}
-use Rattle.number_sets.specs.Sets.{has, IsSet, IsWithin}
-use Rattle.number_sets.proofs.SetLemmas.{listed-is, below_from, length_below}
-use Rattle.problem_rules.specs.Problem.{Problem, rate_of}
-use Rattle.flow_rules.specs.Net.{net_of, million, size_cost}
-use Rattle.flow_rules.proofs.ListedLemmas.{total-listed}
+use Rattle.exact_numbers.specs.integer_laws.Total.{total, total_below}
+use Rattle.exact_numbers.proofs.integer_laws.Cited.{total_below-same}
+use Rattle.pgraph.specs.number_sets.Sets.{has, IsSet, IsWithin}
+use Rattle.pgraph.proofs.number_sets.Cited.{listed-is, below_from, length_below}
+use Rattle.pgraph.specs.problem_rules.Problem.{Problem, rate_of}
+use Rattle.pgraph.specs.flow_rules.Net.{net_of, million, size_cost}
+use Rattle.pgraph.proofs.flow_rules.Cited.{total-listed}
 use Rattle.flow_program.specs.Rates.{AreRates}
 use Rattle.flow_program.proofs.WalkLemmas.{IsNext, rest_within}
 

@@ -2,18 +2,17 @@
 use Rattle.std.proofs.Common.{◌≡◌, ℕ, ◌+◌, ◌*◌, ◌-◌, ◌<◌, ◌≤◌, List, [], ◌++◌, length, true, sym}
 use Rattle.std.proofs.Common.{ap, ◌∙◌, subst, arith, pos, ℤ, ◌+ℤ◌, ◌*ℤ◌}
 use Rattle.std.proofs.lemmas.Int.{ints}
-use Rattle.integer_laws.specs.Range.{InRange}
-use Rattle.integer_laws.specs.Total.{total}
-use Rattle.integer_laws.proofs.Totals.{total-agree}
-use Rattle.number_sets.specs.Sets.{has, IsSet, IsWithin}
-use Rattle.number_sets.proofs.SetLemmas.{listed-is, below_from}
-use Rattle.flow_rules.specs.Net.{Net, trillion, size_cost, units_of}
-use Rattle.flow_rules.specs.Flows.{cost}
-use Rattle.flow_rules.specs.Steps.{AreInRange, IsFirstPast}
-use Rattle.flow_rules.specs.CostSteps.{unit_steps, cost_steps_from, cost_steps}
-use Rattle.flow_rules.proofs.LeadingLemmas.{Leads, leads_none, leads_part, leads_past_in, leads_all}
-use Rattle.flow_rules.proofs.LeadingLemmas.{leads_same}
-use Rattle.flow_rules.proofs.SameLemmas.{Agree, all_had, costs-same}
+use Rattle.exact_numbers.specs.integer_laws.Range.{InRange}
+use Rattle.exact_numbers.specs.integer_laws.Total.{total}
+use Rattle.exact_numbers.proofs.integer_laws.Cited.{total-agree}
+use Rattle.pgraph.specs.number_sets.Sets.{has, IsSet, IsWithin}
+use Rattle.pgraph.proofs.number_sets.Cited.{listed-is, below_from}
+use Rattle.pgraph.specs.flow_rules.Net.{Net, trillion, size_cost, units_of}
+use Rattle.pgraph.specs.flow_rules.Flows.{cost}
+use Rattle.pgraph.specs.flow_rules.Steps.{AreInRange, IsFirstPast}
+use Rattle.pgraph.specs.flow_rules.CostSteps.{unit_steps, cost_steps_from, cost_steps}
+use Rattle.pgraph.proofs.flow_rules.Cited.{Leads, leads_none, leads_part, leads_past_in, leads_all}
+use Rattle.pgraph.proofs.flow_rules.Cited.{leads_same, Agree, all_had, costs-same}
 use Rattle.flow_program.proofs.WalkLemmas.{IsNext, rest_within}
 
 -- ---- one unit

@@ -7,26 +7,25 @@ use Rattle.std.specs.List.{AllByRecursion}
 use Rattle.std.specs.Ordering.{int_eq}
 use Rattle.std.proofs.lemmas.Int.{ints}
 use Rattle.std.proofs.lemmas.Bool.{lt-ltb, eqb-true}
-use Rattle.integer_laws.specs.Range.{InRange}
-use Rattle.integer_laws.specs.Total.{total}
-use Rattle.integer_laws.proofs.Totals.{total-agree}
-use Rattle.number_sets.specs.Sets.{has, listed, IsSet, IsWithin}
-use Rattle.number_sets.proofs.SetLemmas.{has-listed, same_sets, IsRising-listed}
-use Rattle.problem_rules.specs.Problem.{Problem, rate_of, terms_have, unit_at}
-use Rattle.problem_rules.specs.WellFormed.{IsWellFormed}
-use Rattle.pns_rules.specs.Shape.{Shape, IsProper}
-use Rattle.pns_rules.specs.Structure.{mats}
-use Rattle.flow_rules.specs.Net.{Net, net_of, beside, units_of, materials_of, low_end, high_end}
-use Rattle.flow_rules.specs.Flows.{IsFlows, balance}
-use Rattle.flow_rules.specs.Steps.{AreInRange, IsFirstPast}
-use Rattle.flow_rules.specs.FeasibleSteps.{units_at, balance_steps, materials_steps, feasible_steps}
-use Rattle.flow_rules.proofs.LeadingLemmas.{Leads, leads_none, leads_one, leads_part, leads_past}
-use Rattle.flow_rules.proofs.LeadingLemmas.{leads_past_in, leads_all, leads_same, IsFirstPast-left}
-use Rattle.flow_rules.proofs.LeadingLemmas.{IsFirstPast-right, AreInRange-append}
-use Rattle.flow_rules.proofs.SameLemmas.{Agree, all_had}
-use Rattle.flow_rules.proofs.LastLemmas.{total_at_units}
-use Rattle.flow_rules.proofs.NetLemmas.{unit_formed}
-use Rattle.flow_rules.proofs.ZeroLemmas.{int_eq_zero, int_eq_other}
+use Rattle.exact_numbers.specs.integer_laws.Range.{InRange}
+use Rattle.exact_numbers.specs.integer_laws.Total.{total}
+use Rattle.exact_numbers.proofs.integer_laws.Cited.{total-agree}
+use Rattle.pgraph.specs.number_sets.Sets.{has, listed, IsSet, IsWithin}
+use Rattle.pgraph.proofs.number_sets.Cited.{has-listed, same_sets, IsRising-listed}
+use Rattle.pgraph.specs.problem_rules.Problem.{Problem, rate_of, terms_have, unit_at}
+use Rattle.pgraph.specs.problem_rules.WellFormed.{IsWellFormed}
+use Rattle.pgraph.specs.pns_rules.Shape.{Shape, IsProper}
+use Rattle.pgraph.specs.pns_rules.Structure.{mats}
+use Rattle.pgraph.specs.flow_rules.Net.{Net, net_of, beside, units_of, materials_of, low_end}
+use Rattle.pgraph.specs.flow_rules.Net.{high_end}
+use Rattle.pgraph.specs.flow_rules.Flows.{IsFlows, balance}
+use Rattle.pgraph.specs.flow_rules.Steps.{AreInRange, IsFirstPast}
+use Rattle.pgraph.specs.flow_rules.FeasibleSteps.{units_at, balance_steps, materials_steps}
+use Rattle.pgraph.specs.flow_rules.FeasibleSteps.{feasible_steps}
+use Rattle.pgraph.proofs.flow_rules.Cited.{Leads, leads_none, leads_one, leads_part, leads_past}
+use Rattle.pgraph.proofs.flow_rules.Cited.{leads_past_in, leads_all, leads_same, IsFirstPast-left}
+use Rattle.pgraph.proofs.flow_rules.Cited.{IsFirstPast-right, AreInRange-append, Agree, all_had}
+use Rattle.pgraph.proofs.flow_rules.Cited.{total_at_units, unit_formed, int_eq_zero, int_eq_other}
 use Rattle.flow_program.specs.Feasible.{IsInBox, AreInBoxes, IsInRangeOf, AreInRanges}
 use Rattle.flow_program.proofs.NodeSetLemmas.{listed_had, mats_known, absorbs}
 use Rattle.flow_program.proofs.RateLemmas.{rate_there, rate_elsewhere}

@@ -1,3 +1,4 @@
+pub mod Cited
 pub mod SizeLemmas
 pub mod WalkLemmas
 pub mod FeasibleLemmas
@@ -10,3 +11,8 @@ pub mod BoundSumLemmas
 mod CostLemmas
 mod CostSumLemmas
 pub mod QuotientLemmas
+pub use Rattle.pgraph.proofs.number_sets as number_sets
+pub use Rattle.exact_numbers.proofs.integer_laws as integer_laws
+pub use Rattle.pgraph.proofs.pns_rules as pns_rules
+pub use Rattle.exact_numbers.proofs as exact_numbers
+pub use Rattle.pgraph.proofs.pns_problem as pns_problem

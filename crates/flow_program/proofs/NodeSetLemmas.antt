@@ -3,13 +3,13 @@ use Rattle.std.proofs.Common.{◌≡◌, ℕ, zero, suc, ◌<◌, List, true, fa
 use Rattle.std.proofs.Common.{arith}
 use Rattle.std.specs.Prelude.{nat_lt, not, ◌&&◌, ◌||◌}
 use Rattle.std.proofs.lemmas.Bool.{lt-ltb, ltb-true}
-use Rattle.number_sets.specs.Sets.{has, listed, minus, any_below, IsRising, IsSet}
-use Rattle.number_sets.proofs.SetLemmas.{has-listed, has-minus, same_sets, IsRising-listed}
-use Rattle.number_sets.proofs.SetLemmas.{any_below-some, listed-is, below_from}
-use Rattle.pns_rules.specs.Shape.{Shape, IsProper}
-use Rattle.pns_rules.specs.Structure.{mats, is_used, is_made}
-use Rattle.pns_rules.specs.Nodes.{Node}
-use Rattle.flow_rules.specs.Relaxed.{stays}
+use Rattle.pgraph.specs.number_sets.Sets.{has, listed, minus, any_below, IsRising, IsSet}
+use Rattle.pgraph.proofs.number_sets.Cited.{has-listed, has-minus, same_sets, IsRising-listed}
+use Rattle.pgraph.proofs.number_sets.Cited.{any_below-some, listed-is, below_from}
+use Rattle.pgraph.specs.pns_rules.Shape.{Shape, IsProper}
+use Rattle.pgraph.specs.pns_rules.Structure.{mats, is_used, is_made}
+use Rattle.pgraph.specs.pns_rules.Nodes.{Node}
+use Rattle.pgraph.specs.flow_rules.Relaxed.{stays}
 
 -- a member of a listed set is below its limit and passes
 pub listed_had : (n : ℕ) (t : ℕ → Bool) (set : List ℕ) (u : ℕ) → set ≡ listed n t → has set u ≡ true

@@ -9,22 +9,23 @@ use Rattle.std.proofs.lemmas.Int.{ints}
 use Rattle.std.proofs.lemmas.List.{length-append, length-map, append_assoc, append-nil}
 use Rattle.std.proofs.lemmas.List.Elements.{All-from_recursion}
 use Rattle.std.proofs.Math.Nat.{div-le_self}
-use Rattle.integer_laws.specs.Total.{total, total_below}
-use Rattle.integer_laws.proofs.Ring.{ring_z}
-use Rattle.number_sets.specs.Sets.{has, listed, IsSet, IsWithin}
-use Rattle.number_sets.proofs.SetLemmas.{IsSet-listed, AreBelow-higher, length_listed}
-use Rattle.problem_rules.specs.Problem.{Problem, rate_of, rate_in, terms_have, unit_at}
-use Rattle.problem_rules.specs.Problem.{material_at}
-use Rattle.problem_rules.specs.WellFormed.{IsWellFormed, IsInRange}
-use Rattle.pns_rules.specs.Structure.{mats}
-use Rattle.pns_rules.specs.Nodes.{Node}
-use Rattle.flow_rules.specs.Net.{Net, net_of, million, trillion, size_cost, units_of}
-use Rattle.flow_rules.specs.Relaxed.{stays, units, rows, lower_at, row_low, row_high, unit_low}
-use Rattle.flow_rules.specs.Relaxed.{unit_cost, slope, fixed_cost}
-use Rattle.flow_rules.specs.Program as rules
-use Rattle.flow_rules.specs.Program.{Program, program_of, rates_over, IsProgram, AreRanges}
-use Rattle.flow_rules.proofs.NetLemmas.{unit_formed, material_formed, not_negative, at_most_from}
-use Rattle.flow_rules.proofs.SameLemmas.{all_had}
+use Rattle.exact_numbers.specs.integer_laws.Total.{total, total_below}
+use Rattle.exact_numbers.proofs.integer_laws.Cited.{ring_z}
+use Rattle.pgraph.specs.number_sets.Sets.{has, listed, IsSet, IsWithin}
+use Rattle.pgraph.proofs.number_sets.Cited.{IsSet-listed, AreBelow-higher, length_listed}
+use Rattle.pgraph.specs.problem_rules.Problem.{Problem, rate_of, rate_in, terms_have, unit_at}
+use Rattle.pgraph.specs.problem_rules.Problem.{material_at}
+use Rattle.pgraph.specs.problem_rules.WellFormed.{IsWellFormed, IsInRange}
+use Rattle.pgraph.specs.pns_rules.Structure.{mats}
+use Rattle.pgraph.specs.pns_rules.Nodes.{Node}
+use Rattle.pgraph.specs.flow_rules.Net.{Net, net_of, million, trillion, size_cost, units_of}
+use Rattle.pgraph.specs.flow_rules.Relaxed.{stays, units, rows, lower_at, row_low, row_high}
+use Rattle.pgraph.specs.flow_rules.Relaxed.{unit_low}
+use Rattle.pgraph.specs.flow_rules.Relaxed.{unit_cost, slope, fixed_cost}
+use Rattle.pgraph.specs.flow_rules.Program as rules
+use Rattle.pgraph.specs.flow_rules.Program.{Program, program_of, rates_over, IsProgram, AreRanges}
+use Rattle.pgraph.proofs.flow_rules.Cited.{unit_formed, material_formed, not_negative, at_most_from}
+use Rattle.pgraph.proofs.flow_rules.Cited.{all_had}
 use Rattle.flow_program.proofs.SizeLemmas.{size_mul, size_add, size_sub}
 use Rattle.flow_program.proofs.NodeSetLemmas.{listed_had}
 use Rattle.flow_program.proofs.RateLemmas.{rate_in_range, size_of_rate, one_zero}

@@ -6,16 +6,17 @@ use Rattle.std.specs.Prelude.{int_lt}
 use Rattle.std.proofs.lemmas.Int.{ints}
 use Rattle.std.proofs.lemmas.List.{drop_more, get_or-set_same, get_or-set_other, length-set}
 use Rattle.std.proofs.lemmas.Bool.{eq-eqb, ne_eqb, eqb-true}
-use Rattle.number_sets.specs.Sets.{has}
-use Rattle.problem_rules.specs.Each.{Each}
-use Rattle.problem_rules.specs.Problem.{Problem, Material, material_at, no_material, OperatingUnit}
-use Rattle.problem_rules.specs.Problem.{Term, terms_have, rate_in, rate_of, unit_at, no_unit}
-use Rattle.problem_rules.specs.Validity.{repeats_material}
-use Rattle.problem_rules.specs.WellFormed.{IsWellFormedSide, IsWellFormedTerm, IsWellFormedUnit}
-use Rattle.problem_rules.specs.WellFormed.{IsInRange}
-use Rattle.problem_rules.proofs.ItemLemmas.{Each-at}
-use Rattle.problem_rules.proofs.TermLemmas.{known_material, sides_apart}
-use Rattle.flow_rules.proofs.NetLemmas.{no_rate_in}
+use Rattle.pgraph.specs.number_sets.Sets.{has}
+use Rattle.pgraph.specs.problem_rules.Each.{Each}
+use Rattle.pgraph.specs.problem_rules.Problem.{Problem, Material, material_at, no_material}
+use Rattle.pgraph.specs.problem_rules.Problem.{OperatingUnit}
+use Rattle.pgraph.specs.problem_rules.Problem.{Term, terms_have, rate_in, rate_of, unit_at, no_unit}
+use Rattle.pgraph.specs.problem_rules.Validity.{repeats_material}
+use Rattle.pgraph.specs.problem_rules.WellFormed.{IsWellFormedSide, IsWellFormedTerm}
+use Rattle.pgraph.specs.problem_rules.WellFormed.{IsWellFormedUnit}
+use Rattle.pgraph.specs.problem_rules.WellFormed.{IsInRange}
+use Rattle.pgraph.proofs.problem_rules.Cited.{Each-at, known_material, sides_apart}
+use Rattle.pgraph.proofs.flow_rules.Cited.{no_rate_in}
 use Rattle.flow_program.specs.Rates.{AreRates}
 
 -- the default beyond the list does not matter within it

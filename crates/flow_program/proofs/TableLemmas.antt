@@ -3,8 +3,8 @@ use Rattle.std.proofs.Common.{◌≡◌, ◌≢◌, ℕ, zero, suc, ◌+◌, ◌
 use Rattle.std.proofs.Common.{length, drop, get_or, set, refl, sym, ap, ◌∙◌, subst, arith, pos, ℤ}
 use Rattle.std.proofs.lemmas.List.{drop_more, get_or-set_same, get_or-set_other, length-set}
 use Rattle.std.proofs.lemmas.Bool.{eq-eqb, ne_eqb}
-use Rattle.number_sets.specs.Sets.{has, IsRising, IsBelowAll, IsSet}
-use Rattle.flow_rules.specs.Net.{beside}
+use Rattle.pgraph.specs.number_sets.Sets.{has, IsRising, IsBelowAll, IsSet}
+use Rattle.pgraph.specs.flow_rules.Net.{beside}
 use Rattle.flow_program.proofs.WalkLemmas.{IsNext, has_next, passed}
 
 -- `left` are the numbers of the set from place k on; at each other the table has its value

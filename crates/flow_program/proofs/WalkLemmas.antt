@@ -3,8 +3,8 @@
 use Rattle.std.proofs.Common.{◌≡◌, ℕ, ◌<◌, ◌≤◌, ◌==◌, Bool, true, false, not, ◌||◌, Some, List, []}
 use Rattle.std.proofs.Common.{◌∷◌, length, refl, sym, ap, ◌∙◌, subst, arith}
 use Rattle.std.proofs.lemmas.Bool.{eq-eqb, ne_eqb, eqb-true}
-use Rattle.number_sets.specs.Sets.{has, first, kept, IsBelowAll, IsRising, AreBelow, IsSet}
-use Rattle.number_sets.specs.Sets.{IsWithin}
+use Rattle.pgraph.specs.number_sets.Sets.{has, first, kept, IsBelowAll, IsRising, AreBelow, IsSet}
+use Rattle.pgraph.specs.number_sets.Sets.{IsWithin}
 
 -- nothing above x is x
 keeps_above : (x : ℕ) (xs : List ℕ) → IsBelowAll x xs → kept (λ v. not (x == v)) xs ≡ xs

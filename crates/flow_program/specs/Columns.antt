@@ -1,8 +1,8 @@
 -- The steps of one unit in a bound, over its rates as a table has them.
 use Rattle.std.specs.Prelude.{ℕ, ℤ, ◌-ℤ◌, ◌*ℤ◌, List, ◌∷◌, ◌++◌}
 use Rattle.std.specs.Int.{int_min}
-use Rattle.integer_laws.specs.Total.{total}
-use Rattle.flow_rules.specs.BoundSteps.{least_steps, reduced_steps}
+use Rattle.exact_numbers.specs.integer_laws.Total.{total}
+use Rattle.pgraph.specs.flow_rules.BoundSteps.{least_steps, reduced_steps}
 
 -- what is left of the scaled cost after the rows `js` have paid
 abbrev pub left_of : (ℕ → ℤ) → (ℕ → ℤ) → List ℕ → ℤ → ℤ

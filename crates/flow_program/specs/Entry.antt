@@ -1,6 +1,6 @@
 -- The number at a place of a table, and 0 beyond it.
 use Rattle.std.specs.Prelude.{ℕ, ℤ, pos, cond, List, slice_index_or}
-use Rattle.number_sets.specs.Sets.{has}
+use Rattle.pgraph.specs.number_sets.Sets.{has}
 
 abbrev pub entry : List ℤ → ℕ → ℤ
 entry table k = slice_index_or table k (pos 0)

@@ -1,8 +1,8 @@
 -- What is judged of sizes: those of units, and what materials leave over.
 use Rattle.std.specs.Prelude.{ℕ, ℤ, ◌*ℤ◌, ◌≤ℤ◌, Bool, List}
 use Rattle.std.specs.List.{AllByRecursion}
-use Rattle.flow_rules.specs.Net.{Net, low_end, high_end}
-use Rattle.flow_rules.specs.Flows.{balance}
+use Rattle.pgraph.specs.flow_rules.Net.{Net, low_end, high_end}
+use Rattle.pgraph.specs.flow_rules.Flows.{balance}
 
 abbrev pub IsInBox : Net → (ℕ → ℤ) → ℤ → ℕ → Type 0
 IsInBox net z d i = ((net.least i *ℤ d) ≤ℤ z i) × (z i ≤ℤ (net.most i *ℤ d))

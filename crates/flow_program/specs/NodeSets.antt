@@ -1,11 +1,11 @@
 -- The sets that are read of a node's program: its units, its rows, and the materials that have to
 -- be there.
 use Rattle.std.specs.Prelude.{◌≡◌, ℕ, ◌||◌, List}
-use Rattle.number_sets.specs.Sets.{has, listed}
-use Rattle.pns_rules.specs.Shape.{Shape}
-use Rattle.pns_rules.specs.Structure.{mats}
-use Rattle.pns_rules.specs.Nodes.{Node}
-use Rattle.flow_rules.specs.Relaxed.{stays}
+use Rattle.pgraph.specs.number_sets.Sets.{has, listed}
+use Rattle.pgraph.specs.pns_rules.Shape.{Shape}
+use Rattle.pgraph.specs.pns_rules.Structure.{mats}
+use Rattle.pgraph.specs.pns_rules.Nodes.{Node}
+use Rattle.pgraph.specs.flow_rules.Relaxed.{stays}
 
 -- the products, and the materials of the units that are taken in
 abbrev pub AreNeeded : Shape → Node → List ℕ → Type 0

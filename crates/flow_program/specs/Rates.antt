@@ -1,8 +1,8 @@
 -- The rates of a unit, each at the number of its material.
 use Rattle.std.specs.Prelude.{◌≡◌, ◌<◌, ℕ, ℤ, pos, true, false, List, length, slice_index_or}
-use Rattle.number_sets.specs.Sets.{has}
-use Rattle.problem_rules.specs.Problem.{Problem, rate_of}
-use Rattle.problem_rules.specs.WellFormed.{IsInRange}
+use Rattle.pgraph.specs.number_sets.Sets.{has}
+use Rattle.pgraph.specs.problem_rules.Problem.{Problem, rate_of}
+use Rattle.pgraph.specs.problem_rules.WellFormed.{IsInRange}
 
 -- `materials` are those of unit u, and each of them has its rate in the table, which is not 0
 pub record AreRates (p : Problem) (u : ℕ) (materials : List ℕ) (rates : List ℤ) : Type 0 where

@@ -1,18 +1,18 @@
 //! Bounds and refutations of a node.
 ghost use Rattle.std.specs.Prelude.{◌≡◌, ◌<◌, ◌≤◌, ◌+◌, ◌-◌, ◌*◌, ◌^◌, ◌↔◌, ◌+ℤ◌, ◌*ℤ◌, ◌≤ℤ◌, ℕ};
 ghost use Rattle.std.specs.Prelude.{pos, true, length, SomeIff, IfOk, IfErr, OnOk, IsTrue};
-ghost use Rattle.integer_laws.specs.Range.{InRange};
-ghost use Rattle.integer_laws.specs.Total.{total};
-ghost use Rattle.number_sets.specs.Sets.{has};
-ghost use Rattle.pns_rules.specs.Shape.{shape_of};
+ghost use Rattle.exact_numbers.specs.integer_laws.Range.{InRange};
+ghost use Rattle.exact_numbers.specs.integer_laws.Total.{total};
+ghost use Rattle.pgraph.specs.number_sets.Sets.{has};
+ghost use Rattle.pgraph.specs.pns_rules.Shape.{shape_of};
 ghost use Rattle.pgraph.specs.Tables.{shape};
 ghost use Rattle.pgraph.specs.View.{node_of};
-ghost use Rattle.flow_rules.specs.Net.{net_of, beside};
-ghost use Rattle.flow_rules.specs.Relaxed.{units, rows, row_part, unit_part, bound, Refutes};
-ghost use Rattle.flow_rules.specs.Steps.{AreInRange, IsFirstPast};
-ghost use Rattle.flow_rules.specs.BoundSteps.{least_steps, rows_steps, reduced_steps};
-ghost use Rattle.flow_rules.specs.BoundSteps.{units_steps};
-ghost use Rattle.flow_rules.specs.BoundSteps.{bound_steps};
+ghost use Rattle.pgraph.specs.flow_rules.Net.{net_of, beside};
+ghost use Rattle.pgraph.specs.flow_rules.Relaxed.{units, rows, row_part, unit_part, bound, Refutes};
+ghost use Rattle.pgraph.specs.flow_rules.Steps.{AreInRange, IsFirstPast};
+ghost use Rattle.pgraph.specs.flow_rules.BoundSteps.{least_steps, rows_steps, reduced_steps};
+ghost use Rattle.pgraph.specs.flow_rules.BoundSteps.{units_steps};
+ghost use Rattle.pgraph.specs.flow_rules.BoundSteps.{bound_steps};
 ghost use Rattle.flow_program.specs.Columns.{left_of, least_of, column_steps};
 ghost use Rattle.flow_program.specs.Entry.{entry};
 ghost use Rattle.flow_program.specs.NodeSets.{AreNeeded};
@@ -25,9 +25,7 @@ use crate::products::quick_product;
 use crate::rates::put_rates;
 use crate::tables::by_material;
 use exact_numbers::{checked_difference, checked_sum};
-use pgraph::Graph;
-use pns_problem::Problem;
-use unit_sets::{MatSet, Node, UnitSet};
+use pgraph::{Graph, MatSet, Node, Problem, UnitSet};
 
 /// The lesser of `factor * low` and `factor * high`, if it is in range. The greater is not formed.
 fn lesser_product(factor: i128, low: i128, high: i128) -> Option<i128>

@@ -1,22 +1,20 @@
 //! The cost of flows.
 ghost use Rattle.std.specs.Prelude.{◌≡◌, ◌<◌, ◌≤◌, ◌+◌, ◌-◌, ◌^◌, ◌+ℤ◌, ◌*ℤ◌, ℕ, true, length};
 ghost use Rattle.std.specs.Prelude.{IfOk, IfErr, OnOk};
-ghost use Rattle.number_sets.specs.Sets.{has};
-ghost use Rattle.pns_rules.specs.Shape.{shape_of};
+ghost use Rattle.pgraph.specs.number_sets.Sets.{has};
+ghost use Rattle.pgraph.specs.pns_rules.Shape.{shape_of};
 ghost use Rattle.pgraph.specs.Tables.{shape};
-ghost use Rattle.flow_rules.specs.Net.{net_of, beside};
-ghost use Rattle.flow_rules.specs.Flows.{cost};
-ghost use Rattle.flow_rules.specs.Steps.{AreInRange, IsFirstPast};
-ghost use Rattle.flow_rules.specs.CostSteps.{unit_steps, cost_steps};
+ghost use Rattle.pgraph.specs.flow_rules.Net.{net_of, beside};
+ghost use Rattle.pgraph.specs.flow_rules.Flows.{cost};
+ghost use Rattle.pgraph.specs.flow_rules.Steps.{AreInRange, IsFirstPast};
+ghost use Rattle.pgraph.specs.flow_rules.CostSteps.{unit_steps, cost_steps};
 
 use crate::PastSum;
 use crate::costs::{fixed_cost, size_cost, trillionfold};
 use crate::rates::put_rates;
 use crate::tables::by_unit;
 use exact_numbers::{checked_product, checked_sum};
-use pgraph::Graph;
-use pns_problem::Problem;
-use unit_sets::UnitSet;
+use pgraph::{Graph, Problem, UnitSet};
 
 /// The sum with the costs of one unit, whose first step has the number `at`.
 fn with_unit(

@@ -2,14 +2,13 @@
 ghost use Rattle.std.specs.Prelude.{◌≡◌, ◌<◌, ◌≤◌, ◌^◌, ◌*◌, ◌*ℤ◌, ◌+ℤ◌, pos, cond, int_div};
 ghost use Rattle.std.specs.Prelude.{length, unsigned_abs, ℕ, true};
 ghost use Rattle.std.specs.Ordering.{int_eq};
-ghost use Rattle.integer_laws.specs.Total.{total};
-ghost use Rattle.number_sets.specs.Sets.{has};
-ghost use Rattle.problem_rules.specs.WellFormed.{IsInRange};
-ghost use Rattle.flow_rules.specs.Net.{net_of, million, trillion, size_cost};
+ghost use Rattle.exact_numbers.specs.integer_laws.Total.{total};
+ghost use Rattle.pgraph.specs.number_sets.Sets.{has};
+ghost use Rattle.pgraph.specs.problem_rules.WellFormed.{IsInRange};
+ghost use Rattle.pgraph.specs.flow_rules.Net.{net_of, million, trillion, size_cost};
 ghost use Rattle.flow_program.specs.Rates.{AreRates};
 
-use pns_problem::Problem;
-use unit_sets::{MatSet, UnitSet};
+use pgraph::{MatSet, Problem, UnitSet};
 
 /// A yearly amount, over so many years.
 fn over_years(years: i64, yearly: i64) -> i128

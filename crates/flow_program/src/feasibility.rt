@@ -2,18 +2,18 @@
 ghost use Rattle.std.specs.Prelude.{◌≡◌, ◌<◌, ◌≤◌, ◌+◌, ◌-◌, ◌*◌, ◌^◌, ◌↔◌, ◌-ℤ◌, ◌*ℤ◌, ◌≤ℤ◌};
 ghost use Rattle.std.specs.Prelude.{◌<ℤ◌};
 ghost use Rattle.std.specs.Prelude.{◌||◌, ◌&&◌, ℕ, pos, true, length, IfOk, IfErr, OnOk, IsTrue};
-ghost use Rattle.integer_laws.specs.Total.{total};
-ghost use Rattle.number_sets.specs.Sets.{has};
-ghost use Rattle.problem_rules.specs.Problem.{rate_in, rate_of};
-ghost use Rattle.problem_rules.specs.WellFormed.{IsInRange};
-ghost use Rattle.pns_rules.specs.Shape.{shape_of};
-ghost use Rattle.pns_rules.specs.Structure.{mats};
+ghost use Rattle.exact_numbers.specs.integer_laws.Total.{total};
+ghost use Rattle.pgraph.specs.number_sets.Sets.{has};
+ghost use Rattle.pgraph.specs.problem_rules.Problem.{rate_in, rate_of};
+ghost use Rattle.pgraph.specs.problem_rules.WellFormed.{IsInRange};
+ghost use Rattle.pgraph.specs.pns_rules.Shape.{shape_of};
+ghost use Rattle.pgraph.specs.pns_rules.Structure.{mats};
 ghost use Rattle.pgraph.specs.Tables.{shape};
-ghost use Rattle.flow_rules.specs.Net.{net_of, beside, units_of, materials_of};
-ghost use Rattle.flow_rules.specs.Flows.{balance, IsFlows};
-ghost use Rattle.flow_rules.specs.Steps.{AreInRange, IsFirstPast};
-ghost use Rattle.flow_rules.specs.FeasibleSteps.{units_at, balance_steps, materials_steps};
-ghost use Rattle.flow_rules.specs.FeasibleSteps.{feasible_steps};
+ghost use Rattle.pgraph.specs.flow_rules.Net.{net_of, beside, units_of, materials_of};
+ghost use Rattle.pgraph.specs.flow_rules.Flows.{balance, IsFlows};
+ghost use Rattle.pgraph.specs.flow_rules.Steps.{AreInRange, IsFirstPast};
+ghost use Rattle.pgraph.specs.flow_rules.FeasibleSteps.{units_at, balance_steps, materials_steps};
+ghost use Rattle.pgraph.specs.flow_rules.FeasibleSteps.{feasible_steps};
 ghost use Rattle.flow_program.specs.Entry.{entry};
 ghost use Rattle.flow_program.specs.Feasible.{AreInBoxes, AreInRanges};
 
@@ -21,9 +21,7 @@ use crate::PastSum;
 use crate::ranges::{Range, range_of};
 use crate::tables::by_unit;
 use exact_numbers::{checked_product, checked_sum};
-use pgraph::Graph;
-use pns_problem::{Problem, Term};
-use unit_sets::{MatSet, UnitSet};
+use pgraph::{Graph, MatSet, Problem, Term, UnitSet};
 
 /// The rate of the material among the terms; 0 if it is not there.
 fn rate_among(terms: &[Term], j: u32) -> i64

@@ -30,10 +30,19 @@ mod tables;
 pub use bound::{bound_of, refutes};
 pub use cost::cost_of;
 pub use costs::fixed_costs;
+pub use exact_numbers::{
+    CostOver, Frac, Mixed, PastEntry, Which, checked_difference, checked_product, checked_sum,
+    combine, gcd, lowest_terms, primitive,
+};
 pub use feasibility::{feasible, is_within, rate_at, units_with};
 pub use node_numbers::{UnitNumbers, full_range, row_range, unit_numbers};
 pub use node_sets::{NodeSets, sets_of};
 pub use past_sum::PastSum;
+pub use pgraph::{
+    Column, Cover, Covers, FlowStep, Graph, Kind, MatSet, Material, Node, OperatingUnit, Place,
+    Problem, Site, Step, Term, UnitSet, Verdict, amount_text, refutation, relaxed_duality,
+    sums_are_last, valid_is_proper, weak_duality,
+};
 pub use program::Program;
 pub use ranges::Range;
 pub use rates::put_rates;

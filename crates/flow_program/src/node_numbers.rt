@@ -2,17 +2,16 @@
 ghost use Rattle.std.specs.Prelude.{◌≡◌, ◌<◌, ◌≤◌, ◌*◌, ◌^◌, ◌+ℤ◌, ◌*ℤ◌, ◌≤ℤ◌, pos, cond, int_div};
 ghost use Rattle.std.specs.Prelude.{length, unsigned_abs};
 ghost use Rattle.std.specs.Ordering.{int_eq};
-ghost use Rattle.pns_rules.specs.Shape.{shape_of};
+ghost use Rattle.pgraph.specs.pns_rules.Shape.{shape_of};
 ghost use Rattle.pgraph.specs.View.{node_of};
-ghost use Rattle.flow_rules.specs.Net.{net_of, million, low_end, high_end};
-ghost use Rattle.flow_rules.specs.Relaxed.{row_low, row_high, unit_low, unit_cost};
+ghost use Rattle.pgraph.specs.flow_rules.Net.{net_of, million, low_end, high_end};
+ghost use Rattle.pgraph.specs.flow_rules.Relaxed.{row_low, row_high, unit_low, unit_cost};
 ghost use Rattle.flow_program.specs.NodeSets.{AreNeeded};
 ghost use Rattle.flow_program.specs.Rates.{AreRates};
 
 use crate::costs::{fixed_cost, size_cost, slope};
 use crate::ranges::{Range, range_of};
-use pns_problem::Problem;
-use unit_sets::{MatSet, Node};
+use pgraph::{MatSet, Node, Problem};
 
 /// The range of the row of a material.
 pub fn row_range(problem: &Problem, node: &Node, needed: MatSet, j: u32) -> Range

@@ -1,12 +1,11 @@
 //! The sets of a node's program.
 ghost use Rattle.std.specs.Prelude.{◌≡◌, ◌<◌, ℕ, true};
-ghost use Rattle.number_sets.specs.Sets.{has};
+ghost use Rattle.pgraph.specs.number_sets.Sets.{has};
 ghost use Rattle.pgraph.specs.Tables.{shape};
 ghost use Rattle.pgraph.specs.View.{node_of};
 ghost use Rattle.flow_program.specs.NodeSets.{AreSetsOf};
 
-use pgraph::Graph;
-use unit_sets::{MatSet, Node, UnitSet};
+use pgraph::{Graph, MatSet, Node, UnitSet};
 
 /// The units of the program, its rows, and the materials that have to be there: the products and
 /// the materials of the units that are taken in.

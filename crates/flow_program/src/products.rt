@@ -1,7 +1,7 @@
 //! Products of numbers that are mostly short.
 ghost use Rattle.std.specs.Prelude.{◌≡◌, ◌*ℤ◌};
 ghost use Rattle.std.specs.Option.{SomeIff};
-ghost use Rattle.integer_laws.specs.Range.{InRange};
+ghost use Rattle.exact_numbers.specs.integer_laws.Range.{InRange};
 
 use exact_numbers::checked_product;
 

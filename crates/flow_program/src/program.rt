@@ -1,12 +1,12 @@
 //! The program of a node, with all its numbers.
 ghost use Rattle.std.specs.Prelude.{◌≡◌, ◌<◌, ◌++◌, ℕ, true, length, map, IfOk, OnOk};
-ghost use Rattle.number_sets.specs.Sets.{has};
-ghost use Rattle.pns_rules.specs.Shape.{shape_of};
+ghost use Rattle.pgraph.specs.number_sets.Sets.{has};
+ghost use Rattle.pgraph.specs.pns_rules.Shape.{shape_of};
 ghost use Rattle.pgraph.specs.Tables.{shape};
 ghost use Rattle.pgraph.specs.View.{node_of};
-ghost use Rattle.flow_rules.specs.Net.{net_of};
-ghost use Rattle.flow_rules.specs.Relaxed.{unit_low, unit_cost, row_low, row_high};
-ghost use Rattle.flow_rules.specs.Program.{program_of, IsProgram, rates_over};
+ghost use Rattle.pgraph.specs.flow_rules.Net.{net_of};
+ghost use Rattle.pgraph.specs.flow_rules.Relaxed.{unit_low, unit_cost, row_low, row_high};
+ghost use Rattle.pgraph.specs.flow_rules.Program.{program_of, IsProgram, rates_over};
 ghost use Rattle.flow_program.specs.NodeSets.{AreNeeded};
 ghost use Rattle.flow_program.specs.Entry.{rate_beside};
 
@@ -14,11 +14,9 @@ use crate::costs::fixed_costs;
 use crate::node_numbers::{row_range, unit_numbers};
 use crate::node_sets::{NodeSets, sets_of};
 use crate::rates::put_rates;
-use pgraph::Graph;
-use pns_problem::Problem;
+use pgraph::{Graph, MatSet, Node, Problem, UnitSet};
 use std::alloc::{AllocError, Global};
 use std::marker::Model;
-use unit_sets::{MatSet, Node, UnitSet};
 
 /// The relaxed flow program of a node. Its units and its rows are in rising order. By their places
 /// in this order, each unit has what a size of 1 costs, the range of its size, and its rate in each
@@ -38,7 +36,7 @@ pub struct Program {
 }
 
 impl Model for Program {
-    ghost use Rattle.flow_rules.specs.Program as rules;
+    ghost use Rattle.pgraph.specs.flow_rules.Program as rules;
 
     ghost Value = { rules.Program };
 

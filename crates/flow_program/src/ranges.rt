@@ -1,9 +1,9 @@
 //! The ranges of what materials leave over.
 ghost use Rattle.std.specs.Prelude.{◌≡◌, ◌<◌, ◌≤◌, ◌^◌, ◌*ℤ◌, neg_ℤ, length, unsigned_abs};
-ghost use Rattle.problem_rules.specs.WellFormed.{IsInRange};
-ghost use Rattle.flow_rules.specs.Net.{net_of, million, low_end, high_end};
+ghost use Rattle.pgraph.specs.problem_rules.WellFormed.{IsInRange};
+ghost use Rattle.pgraph.specs.flow_rules.Net.{net_of, million, low_end, high_end};
 
-use pns_problem::{Kind, Problem};
+use pgraph::{Kind, Problem};
 
 /// The ends of a range.
 #[derive(Clone, Copy)]

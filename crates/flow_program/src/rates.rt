@@ -1,14 +1,12 @@
 //! The rates of a unit, by material.
 ghost use Rattle.std.specs.Prelude.{◌≡◌, ◌<◌, ◌≤◌, ℕ, pos, neg_ℤ, cond, length, slice_index_or};
-ghost use Rattle.problem_rules.specs.Problem.{terms_have, rate_in};
-ghost use Rattle.problem_rules.specs.WellFormed.{IsInRange, IsWellFormedSide};
-ghost use Rattle.pns_rules.specs.Shape.{shape_of};
+ghost use Rattle.pgraph.specs.problem_rules.Problem.{terms_have, rate_in};
+ghost use Rattle.pgraph.specs.problem_rules.WellFormed.{IsInRange, IsWellFormedSide};
+ghost use Rattle.pgraph.specs.pns_rules.Shape.{shape_of};
 ghost use Rattle.pgraph.specs.Tables.{shape};
 ghost use Rattle.flow_program.specs.Rates.{AreRates};
 
-use pgraph::Graph;
-use pns_problem::{Problem, Term};
-use unit_sets::MatSet;
+use pgraph::{Graph, MatSet, Problem, Term};
 
 /// The rate, negative if it is of an input.
 fn signed(rate: i64, used: bool) -> i64

@@ -1,9 +1,9 @@
 //! Values by the numbers of a set. They are given in the order of the set.
 ghost use Rattle.std.specs.Prelude.{◌≡◌, ◌<◌, ℕ, true, pos, length, slice_index_or};
-ghost use Rattle.number_sets.specs.Sets.{has};
-ghost use Rattle.flow_rules.specs.Net.{beside};
+ghost use Rattle.pgraph.specs.number_sets.Sets.{has};
+ghost use Rattle.pgraph.specs.flow_rules.Net.{beside};
 
-use unit_sets::{MatSet, UnitSet};
+use pgraph::{MatSet, UnitSet};
 
 /// The value of each material of the set.
 pub fn by_material(set: MatSet, values: &[i128]) -> [i128; 256]

@@ -1,7 +1,7 @@
 -- The laws of charges for each valid problem.
 use Rattle.std.proofs.Common.{arith, pos, ℤ, ◌*ℤ◌, ◌≤ℤ◌, ◌<ℤ◌}
 use Rattle.std.proofs.lemmas.Int.{ints}
-use Rattle.integer_laws.proofs.Order.{mul-le_right}
+use Rattle.integer_laws.proofs.Cited.{mul-le_right}
 use Rattle.flow_rules.specs.Net.{net_of}
 use Rattle.flow_rules.specs.Flows.{cost}
 use Rattle.flow_rules.proofs.NetLemmas.{net_of_valid}

@@ -5,13 +5,10 @@ use Rattle.std.specs.Prelude.{int_lt, not, ◌&&◌, Option, Some, None, IfSome}
 use Rattle.std.specs.List.{AllByRecursion}
 use Rattle.std.proofs.lemmas.Int.{ints}
 use Rattle.integer_laws.specs.Total.{total}
-use Rattle.integer_laws.proofs.Ring.{ring_z}
-use Rattle.integer_laws.proofs.Order.{mul_nonneg, mul-le_left, le_trans_z, int_min-le_left}
-use Rattle.integer_laws.proofs.Order.{int_min-le_right}
-use Rattle.integer_laws.proofs.Totals.{total-add, total-sub, total-mul, total-exchange, total-le}
-use Rattle.integer_laws.proofs.Totals.{total-same}
-use Rattle.integer_laws.proofs.Duality.{reduced_costs}
-use Rattle.number_sets.specs.Sets.{listed, IsWithin}
+use Rattle.integer_laws.proofs.Cited.{ring_z, mul_nonneg, mul-le_left, le_trans_z, int_min-le_left}
+use Rattle.integer_laws.proofs.Cited.{int_min-le_right, total-add, total-sub, total-mul}
+use Rattle.integer_laws.proofs.Cited.{total-exchange, total-le, total-same, reduced_costs}
+use Rattle.pns_rules.specs.number_sets.Sets.{listed, IsWithin}
 use Rattle.pns_rules.specs.Structure.{mats, IsBetween}
 use Rattle.pns_rules.specs.Nodes.{Node}
 use Rattle.flow_rules.specs.Net.{Net, million, trillion, size_cost, units_of}

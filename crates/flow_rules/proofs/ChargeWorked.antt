@@ -37,9 +37,10 @@
 -- 0 then.
 use Rattle.std.proofs.Common.{◌≡◌, ℕ, ◌==◌, pos, negsuc, ℤ, List, [], ◌∷◌, refl, cond, length}
 use Rattle.std.specs.Prelude.{Option, Some, None}
-use Rattle.number_sets.specs.Sets.{has, listed}
-use Rattle.problem_rules.specs.Problem.{Problem, Material, Kind, Term, raw_material, intermediate}
-use Rattle.problem_rules.specs.Problem.{product}
+use Rattle.pns_rules.specs.number_sets.Sets.{has, listed}
+use Rattle.pns_rules.specs.problem_rules.Problem.{Problem, Material, Kind, Term, raw_material}
+use Rattle.pns_rules.specs.problem_rules.Problem.{intermediate}
+use Rattle.pns_rules.specs.problem_rules.Problem.{product}
 use Rattle.pns_rules.specs.Nodes.{Node}
 use Rattle.flow_rules.specs.Net.{net_of, beside}
 use Rattle.flow_rules.specs.Flows.{cost}

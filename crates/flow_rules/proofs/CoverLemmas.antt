@@ -6,8 +6,8 @@ use Rattle.std.specs.List.{AllByRecursion}
 use Rattle.std.proofs.lemmas.Int.{ints}
 use Rattle.std.proofs.Common.{eqb-true}
 use Rattle.integer_laws.specs.Total.{total, total_below}
-use Rattle.integer_laws.proofs.Totals.{total-sub, total-le, total-exchange}
-use Rattle.number_sets.specs.Sets.{has, any_below, listed}
+use Rattle.integer_laws.proofs.Cited.{total-sub, total-le, total-exchange}
+use Rattle.pns_rules.specs.number_sets.Sets.{has, any_below, listed}
 use Rattle.pns_rules.specs.Shape.{Shape}
 use Rattle.pns_rules.specs.Structure.{IsBetween}
 use Rattle.pns_rules.specs.Nodes.{Node}

@@ -3,11 +3,8 @@ use Rattle.std.proofs.Common.{ℕ, arith, pos, ℤ, ◌+ℤ◌, ◌*ℤ◌, ◌�
 use Rattle.std.specs.List.{AllByRecursion}
 use Rattle.std.proofs.lemmas.Int.{ints}
 use Rattle.integer_laws.specs.Total.{total}
-use Rattle.integer_laws.proofs.Ring.{ring_z}
-use Rattle.integer_laws.proofs.Order.{mul-le_left, mul-le_right, le_trans_z}
-use Rattle.integer_laws.proofs.Boxes.{box_least}
-use Rattle.integer_laws.proofs.Totals.{total-constant_zero}
-use Rattle.integer_laws.proofs.Duality.{weak_duality}
+use Rattle.integer_laws.proofs.Cited.{ring_z, mul-le_left, mul-le_right, le_trans_z, box_least}
+use Rattle.integer_laws.proofs.Cited.{total-constant_zero, weak_duality}
 use Rattle.pns_rules.specs.Structure.{mats}
 use Rattle.pns_rules.specs.Nodes.{Node}
 use Rattle.flow_rules.specs.Laws.{RelaxedDuality, FlowsAreRelaxed, RelaxedCostsLess}

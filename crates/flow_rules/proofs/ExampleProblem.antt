@@ -2,7 +2,8 @@
 -- the product P of C, U4 makes P of E, which nothing makes, and U5 makes F of B, which nothing
 -- uses.
 use Rattle.std.proofs.Common.{ℕ, pos, ℤ, List, [], ◌∷◌}
-use Rattle.problem_rules.specs.Problem.{Problem, Term, raw_material, intermediate, product}
+use Rattle.pns_rules.specs.problem_rules.Problem.{Problem, Term, raw_material, intermediate}
+use Rattle.pns_rules.specs.problem_rules.Problem.{product}
 
 -- at one unit of mass for each unit of size
 abbrev term_of : ℕ → List Term

@@ -7,10 +7,8 @@ use Rattle.std.specs.List.{AllByRecursion}
 use Rattle.std.specs.Int.{int_min, int_max}
 use Rattle.std.proofs.lemmas.Int.{ints, clamps, by_lt_z}
 use Rattle.integer_laws.specs.Total.{total}
-use Rattle.integer_laws.proofs.Ring.{ring_z, V, ◌⊖◌, ◌⊗◌, ring}
-use Rattle.integer_laws.proofs.Order.{mul_nonneg, mul-le_right, le_trans_z, left-le_int_max}
-use Rattle.integer_laws.proofs.Order.{right-le_int_max}
-use Rattle.integer_laws.proofs.Boxes.{box_least}
+use Rattle.integer_laws.proofs.Cited.{ring_z, V, ◌⊖◌, ◌⊗◌, ring, mul_nonneg, mul-le_right}
+use Rattle.integer_laws.proofs.Cited.{le_trans_z, left-le_int_max, right-le_int_max, box_least}
 use Rattle.flow_rules.specs.Charge.{Knee, inserted, sorted, Owed, counted, bend, bent, least_owed}
 
 -- d times the worth of what is made at size z / d beyond the knee

@@ -1,6 +1,6 @@
 -- A leaf that passes has no cause to be refused, and one that is refused has one.
 use Rattle.std.proofs.Common.{◌≡◌, ◌∙◌, ℤ, sym, inl, inr}
-use Rattle.problem_rules.specs.Problem.{Problem}
+use Rattle.pns_rules.specs.problem_rules.Problem.{Problem}
 use Rattle.pns_rules.specs.Nodes.{Node}
 use Rattle.flow_rules.specs.ChargeFacts.{Facts}
 use Rattle.flow_rules.specs.declared.charge_why.ChargeWhy.{ChargeWhy}

@@ -1,6 +1,7 @@
 pub mod ChargeDualityLemmas
 pub mod ChargeLemmas
 mod ChargeWorked
+pub mod Cited
 pub mod CoverLemmas
 pub mod DualityLemmas
 mod ExampleProblem
@@ -17,3 +18,7 @@ pub mod SameLemmas
 pub mod UsefulLemmas
 mod Worked
 pub mod ZeroLemmas
+pub use Rattle.pns_rules.proofs.number_sets as number_sets
+pub use Rattle.integer_laws.proofs as integer_laws
+pub use Rattle.pns_rules.proofs.problem_rules as problem_rules
+pub use Rattle.pns_rules.proofs as pns_rules

@@ -4,9 +4,8 @@ use Rattle.std.proofs.Common.{[], ◌∷◌, ◌++◌, Bool, true, false, cond}
 use Rattle.std.specs.List.{AllByRecursion}
 use Rattle.std.proofs.lemmas.Int.{ints}
 use Rattle.integer_laws.specs.Total.{total, total_below}
-use Rattle.integer_laws.proofs.Totals.{total-append}
-use Rattle.integer_laws.proofs.IndexTotals.{total_below-same}
-use Rattle.number_sets.specs.Sets.{listed}
+use Rattle.integer_laws.proofs.Cited.{total-append, total_below-same}
+use Rattle.pns_rules.specs.number_sets.Sets.{listed}
 
 All-append : {X : Type 0} (P : X → Type 0) (xs ys : List X) → AllByRecursion P xs
     → AllByRecursion P ys → AllByRecursion P (xs ++ ys)

@@ -4,13 +4,14 @@ use Rattle.std.proofs.Common.{◌∷◌, Bool, true, false, length}
 use Rattle.std.specs.Prelude.{int_lt, ◌==◌, ◌||◌}
 use Rattle.std.proofs.lemmas.Int.{ints}
 use Rattle.std.proofs.lemmas.Bool.{ltb-false}
-use Rattle.integer_laws.proofs.Order.{mul_nonneg}
-use Rattle.problem_rules.specs.Problem.{Problem, Term, material_at, unit_at, no_material, no_unit}
-use Rattle.problem_rules.specs.Problem.{terms_have, rate_in, rate_of}
-use Rattle.problem_rules.specs.Validity.{IsValid}
-use Rattle.problem_rules.specs.WellFormed.{IsWellFormed, IsWellFormedMaterial, IsWellFormedUnit}
-use Rattle.problem_rules.proofs.ItemLemmas.{Each-at}
-use Rattle.problem_rules.proofs.ValidLemmas.{well_formed_from_valid}
+use Rattle.integer_laws.proofs.Cited.{mul_nonneg}
+use Rattle.pns_rules.specs.problem_rules.Problem.{Problem, Term, material_at, unit_at, no_material}
+use Rattle.pns_rules.specs.problem_rules.Problem.{no_unit}
+use Rattle.pns_rules.specs.problem_rules.Problem.{terms_have, rate_in, rate_of}
+use Rattle.pns_rules.specs.problem_rules.Validity.{IsValid}
+use Rattle.pns_rules.specs.problem_rules.WellFormed.{IsWellFormed, IsWellFormedMaterial}
+use Rattle.pns_rules.specs.problem_rules.WellFormed.{IsWellFormedUnit}
+use Rattle.pns_rules.proofs.problem_rules.Cited.{Each-at, well_formed_from_valid}
 use Rattle.flow_rules.specs.Net.{Net, net_of}
 
 pub record IsNet (net : Net) : Type 0 where

@@ -7,11 +7,10 @@ use Rattle.std.specs.Ordering.{int_eq}
 use Rattle.std.proofs.lemmas.Int.{ints, quot-rem}
 use Rattle.std.proofs.Math.Nat.{le-div_iff_mul-le}
 use Rattle.integer_laws.specs.Total.{total}
-use Rattle.integer_laws.proofs.Ring.{ring_z}
-use Rattle.integer_laws.proofs.Order.{mul_nonneg, mul-le_left, mul-le_right}
-use Rattle.integer_laws.proofs.Totals.{total-mul, total-zero, total-add, total-le}
-use Rattle.number_sets.specs.Sets.{IsWithin}
-use Rattle.number_sets.proofs.SetLemmas.{any_below-within, any_below-none}
+use Rattle.integer_laws.proofs.Cited.{ring_z, mul_nonneg, mul-le_left, mul-le_right, total-mul}
+use Rattle.integer_laws.proofs.Cited.{total-zero, total-add, total-le}
+use Rattle.pns_rules.specs.number_sets.Sets.{IsWithin}
+use Rattle.pns_rules.proofs.number_sets.Cited.{any_below-within, any_below-none}
 use Rattle.pns_rules.specs.Structure.{mats, is_used, is_made, IsBetween}
 use Rattle.pns_rules.specs.Nodes.{Node}
 use Rattle.flow_rules.specs.Net.{Net, million, trillion, size_cost, units_of}

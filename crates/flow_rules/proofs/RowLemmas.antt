@@ -7,12 +7,10 @@ use Rattle.std.specs.List.{AllByRecursion}
 use Rattle.std.specs.Int.{int_min, int_max}
 use Rattle.std.proofs.lemmas.Int.{ints, clamps, by_lt_z}
 use Rattle.integer_laws.specs.Total.{total}
-use Rattle.integer_laws.proofs.Ring.{ring_z, V, ◌⊖◌, ◌⊗◌, ring}
-use Rattle.integer_laws.proofs.Order.{mul_nonneg, mul-le_left, mul-le_right, int_min-le_left}
-use Rattle.integer_laws.proofs.Order.{right-le_int_max}
-use Rattle.integer_laws.proofs.Boxes.{box_least}
-use Rattle.integer_laws.proofs.Totals.{total-sub, total-mul, total-zero, total-agree}
-use Rattle.number_sets.specs.Sets.{IsWithin}
+use Rattle.integer_laws.proofs.Cited.{ring_z, V, ◌⊖◌, ◌⊗◌, ring, mul_nonneg, mul-le_left}
+use Rattle.integer_laws.proofs.Cited.{mul-le_right, int_min-le_left, right-le_int_max, box_least}
+use Rattle.integer_laws.proofs.Cited.{total-sub, total-mul, total-zero, total-agree}
+use Rattle.pns_rules.specs.number_sets.Sets.{IsWithin}
 use Rattle.pns_rules.specs.Structure.{mats}
 use Rattle.pns_rules.specs.Nodes.{Node}
 use Rattle.flow_rules.specs.Net.{Net, units_of}

@@ -8,9 +8,9 @@ use Rattle.std.specs.Int.{int_min}
 use Rattle.std.specs.List.{AllByRecursion}
 use Rattle.std.proofs.lemmas.Bool.{eq-eqb}
 use Rattle.integer_laws.specs.Total.{total}
-use Rattle.integer_laws.proofs.Totals.{total-agree}
-use Rattle.number_sets.specs.Sets.{has}
-use Rattle.number_sets.proofs.SetLemmas.{has-listed}
+use Rattle.integer_laws.proofs.Cited.{total-agree}
+use Rattle.pns_rules.specs.number_sets.Sets.{has}
+use Rattle.pns_rules.proofs.number_sets.Cited.{has-listed}
 use Rattle.pns_rules.specs.Structure.{mats}
 use Rattle.pns_rules.specs.Nodes.{Node}
 use Rattle.flow_rules.specs.Net.{Net, trillion, size_cost}

@@ -10,11 +10,9 @@ use Rattle.std.proofs.lemmas.Int.{ints}
 use Rattle.std.proofs.lemmas.Bool.{cases_cond}
 use Rattle.std.proofs.Math.Nat.{div-add-mod, mod-lt}
 use Rattle.integer_laws.specs.Total.{total}
-use Rattle.integer_laws.proofs.Ring.{ring_z}
-use Rattle.integer_laws.proofs.Order.{mul_nonneg, mul-le_left, mul-le_right, le_trans_z}
-use Rattle.integer_laws.proofs.Order.{left-le_int_max, le-int_min}
-use Rattle.integer_laws.proofs.Totals.{total-le, total-mul_right}
-use Rattle.number_sets.specs.Sets.{IsWithin, listed}
+use Rattle.integer_laws.proofs.Cited.{ring_z, mul_nonneg, mul-le_left, mul-le_right, le_trans_z}
+use Rattle.integer_laws.proofs.Cited.{left-le_int_max, le-int_min, total-le, total-mul_right}
+use Rattle.pns_rules.specs.number_sets.Sets.{IsWithin, listed}
 use Rattle.flow_rules.specs.Net.{Net, million, units_of}
 use Rattle.flow_rules.specs.Relaxed.{stays, units, row_low}
 use Rattle.pns_rules.specs.Structure.{mats}

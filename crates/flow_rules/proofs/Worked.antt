@@ -2,7 +2,7 @@
 -- left out; costs of networks with yearly costs and over a payout period; a refutation; and the
 -- first step that is out of range.
 use Rattle.std.proofs.Common.{◌≡◌, ℕ, pos, negsuc, ℤ, [], ◌∷◌, refl, length}
-use Rattle.number_sets.specs.Sets.{has, listed}
+use Rattle.pns_rules.specs.number_sets.Sets.{has, listed}
 use Rattle.pns_rules.specs.Nodes.{Node}
 use Rattle.flow_rules.proofs.ExampleProblem.{example, example_with}
 use Rattle.flow_rules.specs.Net.{net_of, beside}

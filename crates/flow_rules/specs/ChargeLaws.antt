@@ -1,8 +1,8 @@
 -- The laws of charges, each the contract of a public function of this crate.
 use Rattle.std.specs.Prelude.{ℕ, ℤ, pos, ◌*ℤ◌, ◌≤ℤ◌, ◌<ℤ◌, Bool, List}
 use Rattle.std.specs.List.{AllByRecursion}
-use Rattle.problem_rules.specs.Problem.{Problem}
-use Rattle.problem_rules.specs.Validity.{IsValid}
+use Rattle.pns_rules.specs.problem_rules.Problem.{Problem}
+use Rattle.pns_rules.specs.problem_rules.Validity.{IsValid}
 use Rattle.pns_rules.specs.Shape.{Shape, shape_of}
 use Rattle.pns_rules.specs.Structure.{IsBetween}
 use Rattle.pns_rules.specs.Nodes.{Node}

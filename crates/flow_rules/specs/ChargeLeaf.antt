@@ -8,7 +8,7 @@
 -- formed: no sum could let it pass.
 use Rattle.std.specs.Prelude.{◌≡◌, ◌⊎◌, ℕ, ℤ, pos, ◌≤ℤ◌, ◌<ℤ◌, List, length}
 use Rattle.std.specs.List.{AllByRecursion}
-use Rattle.problem_rules.specs.Problem.{Problem}
+use Rattle.pns_rules.specs.problem_rules.Problem.{Problem}
 use Rattle.pns_rules.specs.Shape.{Shape, shape_of}
 use Rattle.pns_rules.specs.Nodes.{Node}
 use Rattle.flow_rules.specs.Net.{net_of, beside}

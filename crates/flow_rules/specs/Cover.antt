@@ -2,7 +2,7 @@
 use Rattle.std.specs.Prelude.{◌≡◌, ℕ, ◌<◌, ◌==◌, ℤ, pos, ◌-ℤ◌, Bool, true, false, cond, ◌&&◌, List}
 use Rattle.std.specs.Prelude.{[], Option, Some, None, IfSome}
 use Rattle.integer_laws.specs.Total.{total}
-use Rattle.number_sets.specs.Sets.{has, IsSet, any_below}
+use Rattle.pns_rules.specs.number_sets.Sets.{has, IsSet, any_below}
 use Rattle.pns_rules.specs.Shape.{Shape}
 use Rattle.pns_rules.specs.Structure.{IsBetween}
 use Rattle.pns_rules.specs.Nodes.{Node}

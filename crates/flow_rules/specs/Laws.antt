@@ -2,8 +2,8 @@
 -- every valid problem, for every node (the units that are taken in and left out), and for any
 -- multipliers.
 use Rattle.std.specs.Prelude.{◌≡◌, ℕ, ◌<◌, ℤ, pos, ◌*ℤ◌, ◌≤ℤ◌, ◌<ℤ◌, Bool, length}
-use Rattle.problem_rules.specs.Problem.{Problem}
-use Rattle.problem_rules.specs.Validity.{IsValid}
+use Rattle.pns_rules.specs.problem_rules.Problem.{Problem}
+use Rattle.pns_rules.specs.problem_rules.Validity.{IsValid}
 use Rattle.pns_rules.specs.Shape.{shape_of}
 use Rattle.pns_rules.specs.Structure.{IsBetween}
 use Rattle.pns_rules.specs.Nodes.{Node}

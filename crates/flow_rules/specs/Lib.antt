@@ -28,3 +28,7 @@ pub mod Start
 pub mod Steps
 pub mod Tableau
 pub mod Vectors
+pub use Rattle.pns_rules.specs.number_sets as number_sets
+pub use Rattle.integer_laws.specs as integer_laws
+pub use Rattle.pns_rules.specs.problem_rules as problem_rules
+pub use Rattle.pns_rules.specs as pns_rules

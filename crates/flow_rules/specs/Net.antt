@@ -2,8 +2,8 @@
 -- period. Quantities are whole millionths.
 use Rattle.std.specs.Prelude.{ℕ, ◌==◌, ℤ, pos, neg_ℤ, ◌+ℤ◌, ◌-ℤ◌, ◌*ℤ◌, Bool, cond, List, [], ◌∷◌}
 use Rattle.integer_laws.specs.Total.{total_below}
-use Rattle.number_sets.specs.Sets.{listed}
-use Rattle.problem_rules.specs.Problem.{Problem, material_at, unit_at, rate_of}
+use Rattle.pns_rules.specs.number_sets.Sets.{listed}
+use Rattle.pns_rules.specs.problem_rules.Problem.{Problem, material_at, unit_at, rate_of}
 use Rattle.pns_rules.specs.Shape.{Shape, shape_of}
 use Rattle.pns_rules.specs.Structure.{mats}
 

@@ -3,7 +3,7 @@
 use Rattle.std.specs.Prelude.{◌≤◌, ◌^◌, ℕ, ℤ, ◌≤ℤ◌, unsigned_abs, List, [], ◌∷◌, ◌++◌, map, length}
 use Rattle.std.specs.Prelude.{All}
 use Rattle.std.specs.Prelude.{◌≡◌, ◌*◌}
-use Rattle.number_sets.specs.Sets.{IsSet}
+use Rattle.pns_rules.specs.number_sets.Sets.{IsSet}
 use Rattle.pns_rules.specs.Nodes.{Node}
 use Rattle.flow_rules.specs.Net.{Net}
 use Rattle.flow_rules.specs.Relaxed.{units, rows, row_low, row_high, unit_low, unit_cost}

@@ -43,7 +43,12 @@ mod charge_why;
 mod place;
 
 pub use charge_why::ChargeWhy;
+pub use integer_laws::Which;
 pub use place::{Column, FlowStep, Place};
+pub use pns_rules::{
+    Axiom, Verdict, children_split_families, ends_are_empty, listing_exists, steps_keep_families,
+    valid_is_proper,
+};
 
 /// For any multipliers and any scale of the cost from 0 on: no flows for a solution structure cost
 /// less than a bound of a node, if the structure has the units that are taken in at the node and

@@ -3,9 +3,9 @@ use Rattle.std.proofs.Common.{◌≡◌, ℕ, Bool, true, false, List, [], ◌�
 use Rattle.std.proofs.Common.{◌∙◌, append_assoc, append-nil, codes}
 use Rattle.std.specs.Prelude.{flat_map, if◌then◌else◌, Option, Some, None, Result, Ok, Err, OnOk}
 use Rattle.std.specs.Prelude.{IfSome, option_map}
-use Rattle.pns_problem.specs.Printing.{printed}
-use Rattle.report_rules.specs.Graph.{node_line, arc_line}
-use Rattle.pns_problem.proofs.PrintingLemmas.{after}
+use Rattle.report_amounts.specs.pns_problem.Printing.{printed}
+use Rattle.report_amounts.specs.report_rules.Graph.{node_line, arc_line}
+use Rattle.report_amounts.proofs.pns_problem.Cited.{after}
 
 pub printed-append : (xs ys : List (List ℕ)) → printed (xs ++ ys) ≡ printed xs ++ printed ys
 printed-append [] ys = refl

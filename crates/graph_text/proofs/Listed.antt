@@ -2,11 +2,11 @@
 use Rattle.std.proofs.Common.{◌≡◌, ℕ, ◌<◌, ◌+◌, List, [], ◌∷◌, ◌++◌, drop, get_or, length, sym, ap}
 use Rattle.std.proofs.Common.{◌∙◌, append_assoc}
 use Rattle.std.proofs.lemmas.List.{drop_more}
-use Rattle.problem_rules.specs.Problem.{Problem}
-use Rattle.tree_rules.specs.Claim.{Network}
-use Rattle.pns_problem.specs.Printing.{printed}
-use Rattle.pns_problem.proofs.PrintingLemmas.{after}
-use Rattle.report_rules.specs.Graph.{label_line, listed_words, listed_lines}
+use Rattle.report_amounts.specs.problem_rules.Problem.{Problem}
+use Rattle.report_amounts.specs.tree_rules.Claim.{Network}
+use Rattle.report_amounts.specs.pns_problem.Printing.{printed}
+use Rattle.report_amounts.proofs.pns_problem.Cited.{after}
+use Rattle.report_amounts.specs.report_rules.Graph.{label_line, listed_words, listed_lines}
 
 -- the text so far and the lines of the networks that are left give the whole text
 pub next_listed : (p : Problem) (first : Network) (ws : List Network) (k : ℕ) (w : Network)

@@ -2,10 +2,10 @@
 use Rattle.std.proofs.Common.{◌≡◌, ℕ, ◌<◌, ◌+◌, List, [], ◌∷◌, drop, get_or, length, sym, ap, ◌∙◌}
 use Rattle.std.proofs.Common.{unsigned_abs}
 use Rattle.std.proofs.lemmas.List.{drop_more}
-use Rattle.problem_rules.specs.Problem.{Problem, Term}
-use Rattle.tree_rules.specs.Claim.{Network}
-use Rattle.report_rules.specs.Aligned.{greater}
-use Rattle.report_rules.specs.Drawn.{moved, most_of, most_at, most_from}
+use Rattle.report_amounts.specs.problem_rules.Problem.{Problem, Term}
+use Rattle.report_amounts.specs.tree_rules.Claim.{Network}
+use Rattle.report_amounts.specs.report_rules.Aligned.{greater}
+use Rattle.report_amounts.specs.report_rules.Drawn.{moved, most_of, most_at, most_from}
 
 -- the number so far and the terms that are left give the whole number
 pub next_most : (p : Problem) (w : Network) (u most k : ℕ) (ts : List Term) (t : Term)

@@ -6,18 +6,19 @@ use Rattle.std.specs.Prelude.{◌||◌, ◌&&◌, nat_lt, not}
 use Rattle.std.specs.Ordering.{int_eq}
 use Rattle.std.proofs.lemmas.Int.{ints}
 use Rattle.std.proofs.lemmas.Bool.{eqb-true, lt-ltb}
-use Rattle.integer_laws.specs.Range.{InRange}
-use Rattle.number_sets.specs.Sets.{has}
-use Rattle.number_sets.proofs.SetLemmas.{has-listed, any_below-from}
-use Rattle.problem_rules.specs.Problem.{Problem, Term, terms_have, rate_in, rate_of, unit_at}
-use Rattle.pns_rules.specs.Shape.{shape_of, IsProper}
-use Rattle.pns_rules.specs.Structure.{mats, is_used, is_made}
-use Rattle.flow_rules.specs.Net.{Net, net_of, materials_of}
-use Rattle.flow_rules.specs.Steps.{AreInRange}
-use Rattle.flow_rules.specs.FeasibleSteps.{units_at, balance_steps}
-use Rattle.flow_rules.proofs.ZeroLemmas.{int_eq_other}
-use Rattle.tree_rules.specs.Claim.{Network, IsFeasible, size_in}
-use Rattle.report_amounts.proofs.FlowLemmas.{material_in_range}
+use Rattle.report_amounts.specs.integer_laws.Range.{InRange}
+use Rattle.report_amounts.specs.number_sets.Sets.{has}
+use Rattle.report_amounts.proofs.number_sets.Cited.{has-listed, any_below-from}
+use Rattle.report_amounts.specs.problem_rules.Problem.{Problem, Term, terms_have, rate_in, rate_of}
+use Rattle.report_amounts.specs.problem_rules.Problem.{unit_at}
+use Rattle.report_amounts.specs.pns_rules.Shape.{shape_of, IsProper}
+use Rattle.report_amounts.specs.pns_rules.Structure.{mats, is_used, is_made}
+use Rattle.report_amounts.specs.flow_rules.Net.{Net, net_of, materials_of}
+use Rattle.report_amounts.specs.flow_rules.Steps.{AreInRange}
+use Rattle.report_amounts.specs.flow_rules.FeasibleSteps.{units_at, balance_steps}
+use Rattle.report_amounts.proofs.flow_rules.Cited.{int_eq_other}
+use Rattle.report_amounts.specs.tree_rules.Claim.{Network, IsFeasible, size_in}
+use Rattle.report_amounts.proofs.Cited.{material_in_range}
 
 -- each product of a balance is one of its steps
 step_in_range : (net : Net) (z : ℕ → ℤ) (j : ℕ) (units : List ℕ) (sum : ℤ) (i : ℕ)

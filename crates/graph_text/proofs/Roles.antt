@@ -2,13 +2,14 @@
 use Rattle.std.proofs.Common.{◌≡◌, ℕ, ℤ, pos, Bool, true, false, List, refl}
 use Rattle.std.specs.Ordering.{int_eq}
 use Rattle.std.specs.Prelude.{if◌then◌else◌, Some, codes}
-use Rattle.number_sets.specs.Sets.{has}
-use Rattle.problem_rules.specs.Problem.{Problem}
-use Rattle.tree_rules.specs.Claim.{Network, size_in}
-use Rattle.report_rules.specs.declared.role.Role.{Role}
-use Rattle.report_rules.specs.declared.role.Role.TheVariants.{Running, AtLimit, Idle, LeftOut}
-use Rattle.report_rules.specs.Drawn.{built_role, is_unit_limited, role_of}
-use Rattle.report_rules.specs.Graph.{look_in}
+use Rattle.report_amounts.specs.number_sets.Sets.{has}
+use Rattle.report_amounts.specs.problem_rules.Problem.{Problem}
+use Rattle.report_amounts.specs.tree_rules.Claim.{Network, size_in}
+use Rattle.report_amounts.specs.report_rules.declared.role.Role.{Role}
+use Rattle.report_amounts.specs.report_rules.declared.role.Role.TheVariants.{Running, AtLimit, Idle}
+use Rattle.report_amounts.specs.report_rules.declared.role.Role.TheVariants.{LeftOut}
+use Rattle.report_amounts.specs.report_rules.Drawn.{built_role, is_unit_limited, role_of}
+use Rattle.report_amounts.specs.report_rules.Graph.{look_in}
 
 idle_at : (zero limited : Bool) (flow : List ℕ) → zero ≡ true
     → codes ", weight=4, style=dashed"

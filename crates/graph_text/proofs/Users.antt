@@ -1,8 +1,8 @@
 -- The users of a material among some units.
 use Rattle.std.proofs.Common.{◌≡◌, ◌<◌, ℕ, Bool, true, List, sym, ap, ◌∙◌}
 use Rattle.std.specs.Prelude.{◌&&◌}
-use Rattle.number_sets.specs.Sets.{has, meet, listed, IsRising}
-use Rattle.number_sets.proofs.SetLemmas.{listed-is, listed-same, below_from, has-meet}
+use Rattle.report_amounts.specs.number_sets.Sets.{has, meet, listed, IsRising}
+use Rattle.report_amounts.proofs.number_sets.Cited.{listed-is, listed-same, below_from, has-meet}
 use Rattle.std.proofs.lemmas.Bool.{and_parts}
 
 pub users_are : (n : ℕ) (g h : ℕ → Bool) (all units users : List ℕ) → users ≡ meet all units

@@ -1,11 +1,11 @@
 -- What contracts see of a picture, and what always holds of it. Its graph is the one of the plant,
 -- its units are units of the plant, its network is feasible, and its greatest flow is known.
 use Rattle.std.specs.Prelude.{◌≡◌, ◌<◌, ℕ, true, List, Option, IfSome, length}
-use Rattle.number_sets.specs.Sets.{has}
-use Rattle.problem_rules.specs.Problem.{Problem}
-use Rattle.pns_rules.specs.Shape.{Shape, shape_of}
-use Rattle.tree_rules.specs.Claim.{Network, IsFeasible}
-use Rattle.report_rules.specs.Drawn.{Picture, greatest_flow}
+use Rattle.report_amounts.specs.number_sets.Sets.{has}
+use Rattle.report_amounts.specs.problem_rules.Problem.{Problem}
+use Rattle.report_amounts.specs.pns_rules.Shape.{Shape, shape_of}
+use Rattle.report_amounts.specs.tree_rules.Claim.{Network, IsFeasible}
+use Rattle.report_amounts.specs.report_rules.Drawn.{Picture, greatest_flow}
 
 pub record Drawing : Type 0 where
   pub problem : Problem

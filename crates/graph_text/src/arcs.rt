@@ -1,20 +1,21 @@
 //! The lines of arcs.
 ghost use Rattle.std.specs.Prelude.{◌≡◌, ◌++◌, ◌∷◌, [], ◌<◌, ◌≤ℤ◌, ℕ, true, Some, pos};
 ghost use Rattle.std.specs.Prelude.{unsigned_abs, codes, OnOk, string_bytes, length, map};
-ghost use Rattle.integer_laws.specs.Range.{InRange};
-ghost use Rattle.number_sets.specs.Sets.{has};
-ghost use Rattle.problem_rules.specs.Problem.{terms_have};
-ghost use Rattle.pns_problem.specs.Kind.{kind_of};
-ghost use Rattle.pns_problem.specs.Printing.{printed};
-ghost use Rattle.tree_rules.specs.Claim.{IsFeasible, size_in};
-ghost use Rattle.report_rules.specs.Drawn.{built_role, is_unit_limited, role_of};
-ghost use Rattle.report_rules.specs.Drawn.{flow_text};
-ghost use Rattle.report_rules.specs.Drawn.{greatest_flow, width_words};
-ghost use Rattle.report_rules.specs.Graph.{rate_label, flow_label, look_in, arc_look};
-ghost use Rattle.report_rules.specs.Graph.{arc_tip};
-ghost use Rattle.report_rules.specs.Graph.{arc_end, plain_line, use_look, use_text};
-ghost use Rattle.report_rules.specs.Graph.{use_arc};
-ghost use Rattle.report_rules.specs.Graph.{use_line, input_line, output_line};
+ghost use Rattle.report_amounts.specs.integer_laws.Range.{InRange};
+ghost use Rattle.report_amounts.specs.number_sets.Sets.{has};
+ghost use Rattle.report_amounts.specs.problem_rules.Problem.{terms_have};
+ghost use Rattle.report_amounts.specs.pns_problem.Kind.{kind_of};
+ghost use Rattle.report_amounts.specs.pns_problem.Printing.{printed};
+ghost use Rattle.report_amounts.specs.tree_rules.Claim.{IsFeasible, size_in};
+ghost use Rattle.report_amounts.specs.report_rules.Drawn.{built_role, is_unit_limited, role_of};
+ghost use Rattle.report_amounts.specs.report_rules.Drawn.{flow_text};
+ghost use Rattle.report_amounts.specs.report_rules.Drawn.{greatest_flow, width_words};
+ghost use Rattle.report_amounts.specs.report_rules.Graph.{rate_label, flow_label, look_in};
+ghost use Rattle.report_amounts.specs.report_rules.Graph.{arc_look};
+ghost use Rattle.report_amounts.specs.report_rules.Graph.{arc_tip};
+ghost use Rattle.report_amounts.specs.report_rules.Graph.{arc_end, plain_line, use_look, use_text};
+ghost use Rattle.report_amounts.specs.report_rules.Graph.{use_arc};
+ghost use Rattle.report_amounts.specs.report_rules.Graph.{use_line, input_line, output_line};
 ghost use Rattle.graph_text.specs.Kept.{picture_of};
 
 use crate::greatest::moved;
@@ -22,10 +23,7 @@ use crate::nodes::{grey_unless, push_node, push_use_node, shape};
 use crate::numbers::{push_flow, push_told, width};
 use crate::picture::Picture;
 use crate::role::{is_built, is_in};
-use branch_tree::Network;
-use pns_problem::{Kind, Term};
-use report_amounts::size_at;
-use report_amounts::material_of;
+use report_amounts::{Kind, Network, Term, material_of, size_at};
 use std::alloc::AllocError;
 
 /// The rate of an arc, if it is not 1.

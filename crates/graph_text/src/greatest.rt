@@ -1,16 +1,12 @@
 //! The greatest flow of a network.
 ghost use Rattle.std.specs.Prelude.{◌≡◌, ◌<◌, true, Some, IfSome, option_map, unsigned_abs, length};
-ghost use Rattle.integer_laws.specs.Range.{InRange};
-ghost use Rattle.number_sets.specs.Sets.{has};
-ghost use Rattle.tree_rules.specs.Claim.{IsFeasible};
-ghost use Rattle.report_rules.specs.Aligned.{greater};
-ghost use Rattle.report_rules.specs.Drawn.{moved, most_of, most_at, greatest_flow};
+ghost use Rattle.report_amounts.specs.integer_laws.Range.{InRange};
+ghost use Rattle.report_amounts.specs.number_sets.Sets.{has};
+ghost use Rattle.report_amounts.specs.tree_rules.Claim.{IsFeasible};
+ghost use Rattle.report_amounts.specs.report_rules.Aligned.{greater};
+ghost use Rattle.report_amounts.specs.report_rules.Drawn.{moved, most_of, most_at, greatest_flow};
 
-use branch_tree::Network;
-use flow_program::rate_at;
-use pns_problem::{Problem, Term};
-use pns_rules::valid_is_proper;
-use report_amounts::{moved_at, size_at};
+use report_amounts::{Network, Problem, Term, moved_at, rate_at, size_at, valid_is_proper};
 
 /// What a unit of the network makes of the material less what it uses of it, in 10^-12 over d.
 pub(crate) fn moved(problem: &Problem, network: &Network, u: u32, j: u32) -> i128

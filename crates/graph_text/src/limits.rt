@@ -1,20 +1,19 @@
 //! Whether a number is at one of its bounds.
 ghost use Rattle.std.specs.Prelude.{◌≡◌, ◌<◌, ◌*ℤ◌, ◌&&◌, ◌||◌, not, pos, true, length};
 ghost use Rattle.std.specs.Ordering.{int_eq};
-ghost use Rattle.integer_laws.specs.Range.{InRange};
-ghost use Rattle.number_sets.specs.Sets.{has};
-ghost use Rattle.problem_rules.specs.Problem.{is_raw_material};
-ghost use Rattle.pns_problem.specs.Kind.{kind_of};
-ghost use Rattle.flow_rules.specs.Net.{net_of, materials_of, million};
-ghost use Rattle.tree_rules.specs.Claim.{IsFeasible};
-ghost use Rattle.report_rules.specs.Report.{bought_or_left, turned_flow};
-ghost use Rattle.report_rules.specs.Drawn.{is_limited, is_unit_limited, is_material_limited};
+ghost use Rattle.report_amounts.specs.integer_laws.Range.{InRange};
+ghost use Rattle.report_amounts.specs.number_sets.Sets.{has};
+ghost use Rattle.report_amounts.specs.problem_rules.Problem.{is_raw_material};
+ghost use Rattle.report_amounts.specs.pns_problem.Kind.{kind_of};
+ghost use Rattle.report_amounts.specs.flow_rules.Net.{net_of, materials_of, million};
+ghost use Rattle.report_amounts.specs.tree_rules.Claim.{IsFeasible};
+ghost use Rattle.report_amounts.specs.report_rules.Report.{bought_or_left, turned_flow};
+ghost use Rattle.report_amounts.specs.report_rules.Drawn.{is_limited, is_unit_limited};
+ghost use Rattle.report_amounts.specs.report_rules.Drawn.{is_material_limited};
 
-use branch_tree::Network;
-use exact_numbers::checked_product;
-use pns_problem::{Kind, Problem};
-use report_amounts::size_at;
-use report_amounts::{flow_at, material_of, unit_of};
+use report_amounts::{
+    Kind, Network, Problem, checked_product, flow_at, material_of, size_at, unit_of,
+};
 
 /// Whether z over d is the bound. A product that overflows is not z, which is in range.
 fn is_at(z: i128, bound: i128, d: i128) -> bool

@@ -1,13 +1,13 @@
 //! A list of networks as a table.
 ghost use Rattle.std.specs.Prelude.{◌≡◌, ◌++◌, ◌<◌, ◌^◌, IfOk, OnOk, length, string_bytes};
-ghost use Rattle.pns_problem.specs.Printing.{printed};
-ghost use Rattle.report_rules.specs.Graph.{change_words, cost_words, listed_words, label_line};
-ghost use Rattle.report_rules.specs.Graph.{listed_lines, list_head, list_end, list_lines};
+ghost use Rattle.report_amounts.specs.pns_problem.Printing.{printed};
+ghost use Rattle.report_amounts.specs.report_rules.Graph.{change_words, cost_words, listed_words};
+ghost use Rattle.report_amounts.specs.report_rules.Graph.{label_line};
+ghost use Rattle.report_amounts.specs.report_rules.Graph.{listed_lines, list_head, list_end};
+ghost use Rattle.report_amounts.specs.report_rules.Graph.{list_lines};
 
 use crate::numbers::push_cost;
-use branch_tree::Network;
-use pns_problem::Problem;
-use report_amounts::{above_first, change_of, place_of};
+use report_amounts::{Network, Problem, above_first, change_of, place_of};
 use std::alloc::{AllocError, Global};
 
 /// Appends a comma and the change, if there is any.

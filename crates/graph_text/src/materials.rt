@@ -1,28 +1,25 @@
 //! The lines of materials.
 ghost use Rattle.std.specs.Prelude.{◌≡◌, ◌++◌, ◌<◌, ◌≤◌, ℕ, true, Some, OnOk, IfSome, option_map};
 ghost use Rattle.std.specs.Prelude.{string_bytes, length, map};
-ghost use Rattle.number_sets.specs.Sets.{has, IsSet};
-ghost use Rattle.problem_rules.specs.Problem.{material_at};
-ghost use Rattle.pns_problem.specs.Kind.{kind_of};
-ghost use Rattle.pns_problem.specs.Printing.{printed};
-ghost use Rattle.pns_rules.specs.Shape.{shape_of};
-ghost use Rattle.pns_rules.specs.Structure.{mats};
-ghost use Rattle.flow_rules.specs.Net.{net_of, materials_of};
-ghost use Rattle.flow_rules.specs.Flows.{balance};
-ghost use Rattle.tree_rules.specs.Claim.{IsFeasible, size_in};
-ghost use Rattle.report_rules.specs.Drawn.{material_flow, net_label};
-ghost use Rattle.report_rules.specs.Graph.{material_tip, drawn_look, material_line};
+ghost use Rattle.report_amounts.specs.number_sets.Sets.{has, IsSet};
+ghost use Rattle.report_amounts.specs.problem_rules.Problem.{material_at};
+ghost use Rattle.report_amounts.specs.pns_problem.Kind.{kind_of};
+ghost use Rattle.report_amounts.specs.pns_problem.Printing.{printed};
+ghost use Rattle.report_amounts.specs.pns_rules.Shape.{shape_of};
+ghost use Rattle.report_amounts.specs.pns_rules.Structure.{mats};
+ghost use Rattle.report_amounts.specs.flow_rules.Net.{net_of, materials_of};
+ghost use Rattle.report_amounts.specs.flow_rules.Flows.{balance};
+ghost use Rattle.report_amounts.specs.tree_rules.Claim.{IsFeasible, size_in};
+ghost use Rattle.report_amounts.specs.report_rules.Drawn.{material_flow, net_label};
+ghost use Rattle.report_amounts.specs.report_rules.Graph.{material_tip, drawn_look, material_line};
 ghost use Rattle.graph_text.specs.Kept.{picture_of};
 
 use crate::limits::is_material_limited;
 use crate::nodes::{grey_unless, limit_look, push_node, shape};
 use crate::numbers::{push_net, push_told};
 use crate::picture::Picture;
-use branch_tree::Network;
-use pns_problem::{Material, Problem};
-use report_amounts::{flow_at, material_of};
+use report_amounts::{MatSet, Material, Network, Problem, flow_at, material_of};
 use std::alloc::AllocError;
-use unit_sets::MatSet;
 
 /// Whether the material is one of the network's.
 fn is_in(picture: &Picture<'_>, network: &Network, j: u32) -> bool

@@ -1,9 +1,10 @@
 //! Nodes between quotes, and their looks.
 ghost use Rattle.std.specs.Prelude.{◌≡◌, ◌++◌, OnOk, string_bytes};
-ghost use Rattle.pns_problem.specs.Kind.{kind_of};
-ghost use Rattle.report_rules.specs.Graph.{node, use_node, shape_words, grey_unless, limit_look};
+ghost use Rattle.report_amounts.specs.pns_problem.Kind.{kind_of};
+ghost use Rattle.report_amounts.specs.report_rules.Graph.{node, use_node, shape_words, grey_unless};
+ghost use Rattle.report_amounts.specs.report_rules.Graph.{limit_look};
 
-use pns_problem::Kind;
+use report_amounts::Kind;
 use std::alloc::AllocError;
 
 /// The node of a name of a sort.

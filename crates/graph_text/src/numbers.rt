@@ -1,18 +1,16 @@
 //! Sizes, flows, money, costs and the numbers of a plant.
 ghost use Rattle.std.specs.Prelude.{◌≡◌, ◌++◌, ◌≤ℤ◌, ◌<ℤ◌, pos, unsigned_abs, codes, OnOk};
 ghost use Rattle.std.specs.Prelude.{string_bytes};
-ghost use Rattle.integer_laws.specs.Range.{InRange};
-ghost use Rattle.flow_rules.specs.Net.{million};
-ghost use Rattle.report_rules.specs.Number.{number_text};
-ghost use Rattle.report_rules.specs.Amounts.{quotient};
-ghost use Rattle.report_rules.specs.Drawn.{below, flow_text, way_words, money, money_label};
-ghost use Rattle.report_rules.specs.Drawn.{net_label, width_words};
-ghost use Rattle.report_rules.specs.Graph.{exact, told, cost_text};
+ghost use Rattle.report_amounts.specs.integer_laws.Range.{InRange};
+ghost use Rattle.report_amounts.specs.flow_rules.Net.{million};
+ghost use Rattle.report_amounts.specs.report_rules.Number.{number_text};
+ghost use Rattle.report_amounts.specs.report_rules.Amounts.{quotient};
+ghost use Rattle.report_amounts.specs.report_rules.Drawn.{below, flow_text, way_words, money};
+ghost use Rattle.report_amounts.specs.report_rules.Drawn.{money_label};
+ghost use Rattle.report_amounts.specs.report_rules.Drawn.{net_label, width_words};
+ghost use Rattle.report_amounts.specs.report_rules.Graph.{exact, told, cost_text};
 
-use branch_tree::Network;
-use report_amounts::{push_signed, push_six_digits};
-use pns_problem::Problem;
-use report_amounts::Number;
+use report_amounts::{Network, Number, Problem, push_signed, push_six_digits};
 use std::alloc::AllocError;
 
 /// A number of the plant, in millionths.
@@ -61,7 +59,7 @@ fn way(net: i128) -> &'static str
 }
 
 /// num / den.
-#[tactic(auto, unfolding(report_rules::specs::Amounts::quotient))]
+#[tactic(auto, unfolding(crate::specs::Unfolded::quotient))]
 fn quotient(num: i128, den: i128) -> Number
     requires num_in_range { InRange num }
     requires den_in_range { InRange den }

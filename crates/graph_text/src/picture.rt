@@ -1,20 +1,18 @@
 //! What is drawn.
 ghost use Rattle.std.specs.Prelude.{◌≡◌, ◌≤◌, ◌<◌, ℕ, true, IfSome, length, option_map};
 ghost use Rattle.std.specs.Prelude.{unsigned_abs};
-ghost use Rattle.number_sets.specs.Sets.{has};
-ghost use Rattle.problem_rules.specs.Validity.{IsValid};
-ghost use Rattle.pns_rules.specs.Shape.{IsProper, shape_of};
-ghost use Rattle.pgraph.specs.Tables.{shape};
-ghost use Rattle.tree_rules.specs.Claim.{IsFeasible};
-ghost use Rattle.report_rules.specs.Drawn.{is_spread, is_taken, counts, greatest_flow};
+ghost use Rattle.report_amounts.specs.number_sets.Sets.{has};
+ghost use Rattle.report_amounts.specs.problem_rules.Validity.{IsValid};
+ghost use Rattle.report_amounts.specs.pns_rules.Shape.{IsProper, shape_of};
+ghost use Rattle.report_amounts.specs.pgraph.Tables.{shape};
+ghost use Rattle.report_amounts.specs.tree_rules.Claim.{IsFeasible};
+ghost use Rattle.report_amounts.specs.report_rules.Drawn.{is_spread, is_taken, counts};
+ghost use Rattle.report_amounts.specs.report_rules.Drawn.{greatest_flow};
 ghost use Rattle.graph_text.specs.Kept.{picture_of};
 
 use crate::greatest::greatest_flow;
-use branch_tree::Network;
-use pgraph::{Graph, Site};
-use pns_problem::Problem;
+use report_amounts::{Graph, Network, Problem, Site, UnitSet};
 use std::marker::Model;
-use unit_sets::UnitSet;
 
 /// Some units of a plant with their materials, and a network in it if one is given.
 #[derive(Drop)]
@@ -28,7 +26,7 @@ pub(crate) struct Picture<'a> {
 
 impl<'a> Model for Picture<'a> {
     ghost use Rattle.std.specs.Prelude.{option_map};
-    ghost use Rattle.pgraph.specs.Tables.{shape};
+    ghost use Rattle.report_amounts.specs.pgraph.Tables.{shape};
     ghost use Rattle.graph_text.specs.Kept as specs;
 
     ghost Value = { specs.Drawing };

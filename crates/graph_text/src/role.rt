@@ -1,15 +1,12 @@
 //! The part of a unit in what is drawn.
 ghost use Rattle.std.specs.Prelude.{◌≡◌, ◌<◌, Some, length};
-ghost use Rattle.number_sets.specs.Sets.{has};
-ghost use Rattle.report_rules.specs.Drawn.{role_of, is_built};
-ghost use Rattle.report_rules.specs.Graph.{look_words};
+ghost use Rattle.report_amounts.specs.number_sets.Sets.{has};
+ghost use Rattle.report_amounts.specs.report_rules.Drawn.{role_of, is_built};
+ghost use Rattle.report_amounts.specs.report_rules.Graph.{look_words};
 
 use crate::limits::is_unit_limited;
 use crate::picture::Picture;
-use branch_tree::Network;
-use pns_problem::Problem;
-use report_amounts::size_at;
-use report_rules::Role;
+use report_amounts::{Network, Problem, Role, size_at};
 
 /// Whether the unit is one of the network.
 pub(crate) fn is_in(problem: &Problem, network: &Network, u: u32) -> bool

@@ -2,13 +2,14 @@
 ghost use Rattle.std.specs.Prelude.{◌≡◌, ◌++◌, ◌∷◌, ◌<◌, ◌^◌, ℕ, [], true, Some, OnOk, IfOk};
 ghost use Rattle.std.specs.Prelude.{IfSome};
 ghost use Rattle.std.specs.Prelude.{option_map, string_bytes, length};
-ghost use Rattle.number_sets.specs.Sets.{has};
-ghost use Rattle.pns_problem.specs.Printing.{printed};
-ghost use Rattle.tree_rules.specs.Claim.{IsFeasible};
-ghost use Rattle.report_rules.specs.Graph.{sort_words, total_lines};
-ghost use Rattle.report_rules.specs.Graph.{total_line};
-ghost use Rattle.report_rules.specs.Graph.{head_lines, legend, rate_legend, flow_legend};
-ghost use Rattle.report_rules.specs.Graph.{picture_lines, graph_lines, empty_lines};
+ghost use Rattle.report_amounts.specs.number_sets.Sets.{has};
+ghost use Rattle.report_amounts.specs.pns_problem.Printing.{printed};
+ghost use Rattle.report_amounts.specs.tree_rules.Claim.{IsFeasible};
+ghost use Rattle.report_amounts.specs.report_rules.Graph.{sort_words, total_lines};
+ghost use Rattle.report_amounts.specs.report_rules.Graph.{total_line};
+ghost use Rattle.report_amounts.specs.report_rules.Graph.{head_lines, legend, rate_legend};
+ghost use Rattle.report_amounts.specs.report_rules.Graph.{flow_legend};
+ghost use Rattle.report_amounts.specs.report_rules.Graph.{picture_lines, graph_lines, empty_lines};
 ghost use Rattle.graph_text.specs.Kept.{picture_of};
 
 use crate::list::push_list;
@@ -16,11 +17,8 @@ use crate::materials::push_materials;
 use crate::numbers::push_cost;
 use crate::picture::Picture;
 use crate::units::push_units;
-use branch_tree::Network;
-use pgraph::Site;
-use pns_problem::Problem;
+use report_amounts::{Network, Problem, Site, UnitSet};
 use std::alloc::{AllocError, Global};
-use unit_sets::UnitSet;
 
 fn sort_words(cost: i128) -> &'static str
     ensures { result.now ≡ sort_words cost }

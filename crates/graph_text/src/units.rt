@@ -1,12 +1,13 @@
 //! The lines of units, each before those of its arcs.
 ghost use Rattle.std.specs.Prelude.{◌≡◌, ◌++◌, ◌<◌, ℕ, true, Some, OnOk, string_bytes, length};
 ghost use Rattle.std.specs.Prelude.{flat_map};
-ghost use Rattle.number_sets.specs.Sets.{has};
-ghost use Rattle.problem_rules.specs.Problem.{unit_at};
-ghost use Rattle.pns_problem.specs.Printing.{printed};
-ghost use Rattle.tree_rules.specs.Claim.{IsFeasible};
-ghost use Rattle.report_rules.specs.Drawn.{size_label, unit_size};
-ghost use Rattle.report_rules.specs.Graph.{costs_tip, unit_tip, unit_line, unit_lines};
+ghost use Rattle.report_amounts.specs.number_sets.Sets.{has};
+ghost use Rattle.report_amounts.specs.problem_rules.Problem.{unit_at};
+ghost use Rattle.report_amounts.specs.pns_problem.Printing.{printed};
+ghost use Rattle.report_amounts.specs.tree_rules.Claim.{IsFeasible};
+ghost use Rattle.report_amounts.specs.report_rules.Drawn.{size_label, unit_size};
+ghost use Rattle.report_amounts.specs.report_rules.Graph.{costs_tip, unit_tip, unit_line};
+ghost use Rattle.report_amounts.specs.report_rules.Graph.{unit_lines};
 ghost use Rattle.graph_text.specs.Kept.{picture_of};
 
 use crate::arcs::{push_inputs, push_outputs};
@@ -14,13 +15,10 @@ use crate::nodes::push_node;
 use crate::numbers::push_told;
 use crate::picture::Picture;
 use crate::role::{is_in, look, role_of};
-use branch_tree::Network;
-use pns_problem::{OperatingUnit, Problem};
-use pns_rules::valid_is_proper;
-use report_amounts::{amount, size, unit_of};
-use report_rules::UnitAmount;
+use report_amounts::{
+    Network, OperatingUnit, Problem, UnitAmount, UnitSet, amount, size, unit_of, valid_is_proper,
+};
 use std::alloc::AllocError;
-use unit_sets::UnitSet;
 
 /// Appends the size and the cost of a unit of the network.
 fn push_size_of(

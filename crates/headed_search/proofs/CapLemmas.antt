@@ -2,9 +2,9 @@
 use Rattle.std.proofs.Common.{◌≡◌, ℕ, zero, suc, ◌<◌, ℤ, ◌≤ℤ◌, List, [], ◌∷◌, length, slice_set}
 use Rattle.std.proofs.Common.{get_or, refl, sym, ap, ◌∙◌, subst, arith}
 use Rattle.std.proofs.lemmas.Int.{ints}
-use Rattle.problem_rules.specs.Problem.{Problem, OperatingUnit, no_unit, unit_at}
-use Rattle.tree_laws.specs.Capped.{IsCappedUnit, AreCapped, IsCapped}
-use Rattle.tree_laws.proofs.CappedLemmas.{capped_self, capped_at}
+use Rattle.tree_parts.specs.problem_rules.Problem.{Problem, OperatingUnit, no_unit, unit_at}
+use Rattle.tree_parts.specs.tree_laws.Capped.{IsCappedUnit, AreCapped, IsCapped}
+use Rattle.tree_parts.proofs.tree_laws.Cited.{capped_self, capped_at}
 
 pub all_themselves : (us : List OperatingUnit) → AreCapped us us
 all_themselves [] = tt

@@ -1,15 +1,15 @@
 -- What a search of a capped plant finds, once the leaves of its tree charge.
 use Rattle.std.proofs.Common.{◌≡◌, ℕ, ◌<◌, ◌-◌, ◌^◌, sym, subst}
-use Rattle.problem_rules.specs.Problem.{Problem}
-use Rattle.problem_rules.specs.Validity.{IsValid}
-use Rattle.pns_rules.specs.Nodes.{Node}
-use Rattle.tree_rules.specs.Claim.{Claim}
-use Rattle.tree_rules.specs.Accepted.{Tree}
-use Rattle.tree_rules.specs.Proved.{IsProved}
-use Rattle.tree_laws.specs.Capped.{IsCapped}
-use Rattle.tree_laws.specs.Recharged.{recharged_tree}
-use Rattle.tree_laws.specs.CappingLaws.{CappedClaim, RechargedIsLean, RechargedKnows}
-use Rattle.tree_laws.specs.CappingLaws.{RechargedIsAsLong}
+use Rattle.tree_parts.specs.problem_rules.Problem.{Problem}
+use Rattle.tree_parts.specs.problem_rules.Validity.{IsValid}
+use Rattle.tree_parts.specs.pns_rules.Nodes.{Node}
+use Rattle.tree_parts.specs.tree_rules.Claim.{Claim}
+use Rattle.tree_parts.specs.tree_rules.Accepted.{Tree}
+use Rattle.tree_parts.specs.tree_rules.Proved.{IsProved}
+use Rattle.tree_parts.specs.tree_laws.Capped.{IsCapped}
+use Rattle.tree_parts.specs.tree_laws.Recharged.{recharged_tree}
+use Rattle.tree_parts.specs.tree_laws.CappingLaws.{CappedClaim, RechargedIsLean, RechargedKnows}
+use Rattle.tree_parts.specs.tree_laws.CappingLaws.{RechargedIsAsLong}
 use Rattle.headed_search.specs.Lean.{IsLeanFor}
 
 pub lean_for : CappedClaim → RechargedIsLean → RechargedKnows → RechargedIsAsLong

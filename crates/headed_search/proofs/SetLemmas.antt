@@ -2,8 +2,8 @@
 use Rattle.std.proofs.Common.{◌≡◌, ℕ, ◌<◌, List, true, sym, subst, ◌∙◌}
 use Rattle.std.specs.Prelude.{nat_lt}
 use Rattle.std.proofs.lemmas.Bool.{ltb-true}
-use Rattle.number_sets.specs.Sets.{has, IsSet, IsWithin}
-use Rattle.number_sets.proofs.SetLemmas.{below_from}
+use Rattle.tree_parts.specs.number_sets.Sets.{has, IsSet, IsWithin}
+use Rattle.tree_parts.proofs.number_sets.Cited.{below_from}
 
 -- a set whose numbers are below n
 pub set_below : (n : ℕ) (us : List ℕ) → IsSet 128 us → ((u : ℕ) → has us u ≡ true → u < n)

@@ -1,9 +1,7 @@
 //! The plant whose units have the sizes that are known.
-use basis_guess::ChargeGuess;
-use charges::Facts;
-use pgraph::{Graph, Site};
-use pns_problem::{Parts, Problem};
+use solver::ChargeGuess;
 use std::alloc::{AllocError, Global};
+use tree_parts::{Facts, Graph, Parts, Problem, Site};
 
 /// Gives each unit the sizes of the facts.
 fn put_sizes(parts: &mut Parts, facts: &Facts) {

@@ -1,24 +1,20 @@
 //! Multipliers and sets for a charge.
 ghost use Rattle.std.specs.Prelude.{◌≡◌, ◌<◌, ℕ, true, length, IsTrue, IfSome};
-ghost use Rattle.integer_laws.specs.Range.{InRange};
-ghost use Rattle.number_sets.specs.Sets.{has};
-ghost use Rattle.problem_rules.specs.Problem.{Problem};
-ghost use Rattle.pns_rules.specs.Shape.{shape_of};
-ghost use Rattle.pgraph.specs.Tables.{shape};
-ghost use Rattle.pgraph.specs.View.{node_of};
-ghost use Rattle.flow_rules.specs.Net.{net_of};
-ghost use Rattle.flow_rules.specs.Relaxed.{rows};
-ghost use Rattle.pgraph.specs.Kept.{IsKept};
-ghost use Rattle.pgraph.specs.CoversView.{cover_of};
-ghost use Rattle.cert_check.specs.Known.{KnowsInside};
+ghost use Rattle.tree_parts.specs.integer_laws.Range.{InRange};
+ghost use Rattle.tree_parts.specs.number_sets.Sets.{has};
+ghost use Rattle.tree_parts.specs.problem_rules.Problem.{Problem};
+ghost use Rattle.tree_parts.specs.pns_rules.Shape.{shape_of};
+ghost use Rattle.tree_parts.specs.pgraph.Tables.{shape};
+ghost use Rattle.tree_parts.specs.pgraph.View.{node_of};
+ghost use Rattle.tree_parts.specs.flow_rules.Net.{net_of};
+ghost use Rattle.tree_parts.specs.flow_rules.Relaxed.{rows};
+ghost use Rattle.tree_parts.specs.pgraph.Kept.{IsKept};
+ghost use Rattle.tree_parts.specs.pgraph.CoversView.{cover_of};
+ghost use Rattle.tree_parts.specs.cert_check.Known.{KnowsInside};
 
-use branch_tree::Scaled;
-use basis_guess::Proposal;
-use pgraph::{Cover, Covers};
-use flow_program::sets_of;
-use pgraph::{Graph, Site};
+use solver::Proposal;
 use std::alloc::{AllocError, Global};
-use unit_sets::{MatSet, Node, UnitSet};
+use tree_parts::{Cover, Covers, Graph, MatSet, Node, Scaled, Site, UnitSet, sets_of};
 
 /// Multipliers over their scale, one for each row of a node, and sets.
 #[derive(Drop)]

@@ -2,16 +2,11 @@
 use crate::capped::guess_within;
 use crate::evidence::{Evidence, knows_inside, rows_of};
 use crate::steps::next_step;
-use branch_tree::Network;
-use basis_guess::{Bound, Proposal, Range, Ready, Use, User};
-use charges::rate_of;
-use exact_numbers::CostOver;
-use cert_check::{Known, judge_line};
-use branch_tree::HeadLine;
-use structure_list::maximal;
-use pgraph::Site;
+use solver::{Bound, Proposal, Range, Ready, Use, User};
 use std::alloc::{AllocError, Global};
-use unit_sets::{MatSet, UnitSet};
+use tree_parts::{
+    CostOver, HeadLine, Known, MatSet, Network, Site, UnitSet, judge_line, maximal, rate_of,
+};
 
 // So many rounds at most.
 const ROUNDS: u32 = 4;

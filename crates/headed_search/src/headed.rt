@@ -1,26 +1,21 @@
 //! Networks with a head and a tree that prove them.
 ghost use Rattle.std.specs.Prelude.{◌≤◌, ℕ, Bool, IfSome};
-ghost use Rattle.pns_rules.specs.Shape.{shape_of};
-ghost use Rattle.pns_rules.specs.Structure.{IsStructure, IsAllowed};
-ghost use Rattle.tree_rules.specs.Claim as claims;
-ghost use Rattle.tree_rules.specs.Costs.{CostsEnough};
-ghost use Rattle.tree_rules.specs.Headed.{head_node};
-ghost use Rattle.tree_rules.specs.HeadKnown.{KnowsHead};
-ghost use Rattle.tree_rules.specs.HeadedProved.{IsProvedBy};
+ghost use Rattle.tree_parts.specs.pns_rules.Shape.{shape_of};
+ghost use Rattle.tree_parts.specs.pns_rules.Structure.{IsStructure, IsAllowed};
+ghost use Rattle.tree_parts.specs.tree_rules.Claim as claims;
+ghost use Rattle.tree_parts.specs.tree_rules.Costs.{CostsEnough};
+ghost use Rattle.tree_parts.specs.tree_rules.Headed.{head_node};
+ghost use Rattle.tree_parts.specs.tree_rules.HeadKnown.{KnowsHead};
+ghost use Rattle.tree_parts.specs.tree_rules.HeadedProved.{IsProvedBy};
 ghost use Rattle.headed_search.specs.Lean.{IsLeanFor};
 
+use crate::guess_head;
 use crate::inner::{Candidate, search_capped};
 use crate::numbers::knows_lines;
-use branch_tree::{Claim, Network, Tree};
-use cert_check::check_headed;
-use exact_numbers::CostOver;
-use cert_check::judge_head;
-use crate::guess_head;
-use branch_tree::Head;
-use pgraph::Site;
-use pns_io::{Effort, Watch};
 use std::alloc::Global;
-use tree_parts::is_sound;
+use tree_parts::{
+    Claim, CostOver, Effort, Head, Network, Site, Tree, Watch, check_headed, is_sound, judge_head,
+};
 
 /// A network of least cost, with the head and the tree that prove it.
 #[derive(Drop)]

@@ -1,27 +1,21 @@
 //! The search of the plant with smaller units.
 ghost use Rattle.std.specs.Prelude.{◌≤◌, true, IfSome};
-ghost use Rattle.pns_rules.specs.Shape.{shape_of};
-ghost use Rattle.pns_rules.specs.Ends.{IsSound};
-ghost use Rattle.tree_rules.specs.Claim as claims;
-ghost use Rattle.tree_rules.specs.Proved.{IsProved};
-ghost use Rattle.pgraph.specs.View.{node_of};
-ghost use Rattle.node_evaluation.specs.Children.{claim_with};
+ghost use Rattle.tree_parts.specs.pns_rules.Shape.{shape_of};
+ghost use Rattle.tree_parts.specs.pns_rules.Ends.{IsSound};
+ghost use Rattle.tree_parts.specs.tree_rules.Claim as claims;
+ghost use Rattle.tree_parts.specs.tree_rules.Proved.{IsProved};
+ghost use Rattle.tree_parts.specs.pgraph.View.{node_of};
+ghost use Rattle.solver.specs.node_evaluation.Children.{claim_with};
 ghost use Rattle.headed_search.specs.Lean.{IsLeanFor};
 
 use crate::room::with_room;
-use abb_search::Found;
-use branch_tree::{Claim, Network, Tree};
 use crate::{capped, recharged};
-use tree_laws::{
-    capped_claim, capped_shape, recharged_is_lean, recharged_is_tree, recharged_knows,
-};
-use cert_check::check_claim;
-use cert_check::Known;
-use pgraph::{Graph, Site};
-use pns_io::{Effort, Watch};
-use solver::search_watched;
+use solver::{Found, search_watched};
 use std::alloc::Global;
-use unit_sets::Node;
+use tree_parts::{
+    Claim, Effort, Graph, Known, Network, Node, Site, Tree, Watch, capped_claim, capped_shape,
+    check_claim, recharged_is_lean, recharged_is_tree, recharged_knows,
+};
 
 /// A network, with a tree that may prove that none costs less.
 #[derive(Drop)]

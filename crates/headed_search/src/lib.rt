@@ -42,4 +42,10 @@ mod tree;
 pub use guess::guess_head;
 pub use headed::{Headed, search_headed};
 pub use plant::capped;
+pub use solver::{Found, Ranked, alternatives_watched, rank_watched, search_watched};
 pub use tree::recharged;
+pub use tree_parts::{
+    Claim, Effort, Graph, Head, Network, Node, Outputs, Place, Problem, Shelf, Sink, Site, Tail,
+    Tree, UnitSet, Watch, accepted_is_optimal, generate, maximal, spelled_headed_texts_read,
+    spelled_texts_read,
+};

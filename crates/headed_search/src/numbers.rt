@@ -1,19 +1,16 @@
 //! Lines whose numbers are those of the plant.
 ghost use Rattle.std.specs.Prelude.{IsTrue, IfSome};
-ghost use Rattle.problem_rules.specs.Each.{Each};
-ghost use Rattle.tree_rules.specs.Known.{IsUnit, IsMaterial, AreUnits, KnowsStep, KnowsCover};
-ghost use Rattle.tree_rules.specs.Known.{KnowsCharge};
-ghost use Rattle.pgraph.specs.View.{step_of};
-ghost use Rattle.pgraph.specs.CoversView.{cover_of, covers_of};
-ghost use Rattle.tree_rules.specs.Charged.{handed};
-ghost use Rattle.tree_rules.specs.HeadKnown.{KnowsLine, KnowsHead};
-ghost use Rattle.branch_tree.specs.HeadView.{line_of, lines_of};
+ghost use Rattle.tree_parts.specs.problem_rules.Each.{Each};
+ghost use Rattle.tree_parts.specs.tree_rules.Known.{IsUnit, IsMaterial, AreUnits, KnowsStep};
+ghost use Rattle.tree_parts.specs.tree_rules.Known.{KnowsCover};
+ghost use Rattle.tree_parts.specs.tree_rules.Known.{KnowsCharge};
+ghost use Rattle.tree_parts.specs.pgraph.View.{step_of};
+ghost use Rattle.tree_parts.specs.pgraph.CoversView.{cover_of, covers_of};
+ghost use Rattle.tree_parts.specs.tree_rules.Charged.{handed};
+ghost use Rattle.tree_parts.specs.tree_rules.HeadKnown.{KnowsLine, KnowsHead};
+ghost use Rattle.tree_parts.specs.branch_tree.HeadView.{line_of, lines_of};
 
-use branch_tree::Scaled;
-use pgraph::{Cover, Covers};
-use branch_tree::HeadLine;
-use pgraph::Site;
-use unit_sets::{Step, UnitSet};
+use tree_parts::{Cover, Covers, HeadLine, Scaled, Site, Step, UnitSet};
 
 fn knows_unit(site: &Site<'_>, unit: u32) -> bool
     ensures { IsTrue result → IsUnit site.now unit }

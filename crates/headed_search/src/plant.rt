@@ -1,11 +1,10 @@
 //! Plants with smaller units.
 ghost use Rattle.std.specs.Prelude.{◌≡◌, ◌<◌, ◌≤ℤ◌, IfOk, length, slice_set};
-ghost use Rattle.problem_rules.specs.Problem.{unit_at};
-ghost use Rattle.tree_laws.specs.Capped.{IsCapped};
+ghost use Rattle.tree_parts.specs.problem_rules.Problem.{unit_at};
+ghost use Rattle.tree_parts.specs.tree_laws.Capped.{IsCapped};
 
-use charges::Facts;
-use pns_problem::{OperatingUnit, Parts, Problem};
 use std::alloc::{AllocError, Global};
+use tree_parts::{Facts, OperatingUnit, Parts, Problem};
 
 /// The size, put between the bounds of the unit.
 fn size_within(unit: &OperatingUnit, size: i64) -> i64

@@ -1,7 +1,5 @@
+use tree_parts::{Facts, Network, UnitSet};
 //! Room for a network that is known.
-use branch_tree::Network;
-use charges::Facts;
-use unit_sets::UnitSet;
 
 /// The size of a unit over `d`, or none for a unit that is not in the network.
 fn size_of(network: &Network, unit: u32) -> Option<i128> {

@@ -1,12 +1,10 @@
 //! Trees whose leaves charge.
 ghost use Rattle.std.specs.Prelude.{◌≡◌, IfOk};
-ghost use Rattle.branch_tree.specs.View.{end_of};
-ghost use Rattle.tree_laws.specs.Recharged as rules;
+ghost use Rattle.tree_parts.specs.branch_tree.View.{end_of};
+ghost use Rattle.tree_parts.specs.tree_laws.Recharged as rules;
 
-use branch_tree::{End, Scaled, Tree, TreeNode};
-use tree_laws::recharged_is_tree;
-use pgraph::Covers;
 use std::alloc::{AllocError, Global};
+use tree_parts::{Covers, End, Scaled, Tree, TreeNode, recharged_is_tree};
 
 /// The end, or one that charges by the same multipliers if it is refuted or has a bound.
 fn recharged_end(alloc: Global, end: End) -> Result<End, AllocError>

@@ -1,3 +1,4 @@
+pub mod Cited
 pub mod Ring
 pub mod Order
 pub mod Boxes

@@ -2,7 +2,7 @@
 use Rattle.std.proofs.Common.{◌≡◌, ℕ, List, [], ◌∷◌, ◌++◌, map, refl, sym, ap, ◌∙◌, append_assoc}
 use Rattle.std.proofs.Common.{append-nil}
 use Rattle.std.specs.Prelude.{Result, Ok, Err, OnOk}
-use Rattle.pns_problem.specs.Printing.{printed}
+use Rattle.tree_reading.specs.pns_problem.Printing.{printed}
 use Rattle.report_rules.specs.Json.{quoted, parted, with_comma, comma_lines, array_lines}
 
 pub after : {X : Type 0} (old t1 t2 x y : List X) → t1 ≡ old ++ x → t2 ≡ t1 ++ y

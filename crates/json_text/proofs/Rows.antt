@@ -2,13 +2,13 @@
 use Rattle.std.proofs.Common.{◌≡◌, ◌∷◌, [], ◌++◌, ◌∙◌, suc, ap, sym, subst, true, false, refl, Bool}
 use Rattle.std.proofs.Common.{ℕ, List, Result, Ok, Err, true≢false}
 use Rattle.std.specs.Prelude.{if◌then◌else◌}
-use Rattle.text_lines.specs.Tells.{Tells}
-use Rattle.text_lines.specs.declared.fault.TextFault.{TextFault}
-use Rattle.problem_rules.specs.Problem.{Problem}
-use Rattle.tree_text_rules.specs.Line.{Line}
-use Rattle.tree_text_rules.specs.Read.{Fault, on_line}
-use Rattle.tree_text_rules.specs.declared.TreeKind.{TreeKind}
-use Rattle.tree_text_rules.specs.declared.TreeKind.TheVariants.{BadLine}
+use Rattle.tree_reading.specs.text_lines.Tells.{Tells}
+use Rattle.tree_reading.specs.text_lines.declared.fault.TextFault.{TextFault}
+use Rattle.report_rules.specs.problem_rules.Problem.{Problem}
+use Rattle.report_rules.specs.tree_text_rules.Line.{Line}
+use Rattle.report_rules.specs.tree_text_rules.Read.{Fault, on_line}
+use Rattle.report_rules.specs.tree_text_rules.declared.TreeKind.{TreeKind}
+use Rattle.report_rules.specs.tree_text_rules.declared.TreeKind.TheVariants.{BadLine}
 use Rattle.tree_reading.specs.Tells.{IsOfLine}
 use Rattle.report_rules.specs.RangeTable.{words_of, has_no_word, row_read, rows_taken, has_headings}
 use Rattle.report_rules.specs.RangeTable.{lines_taken}

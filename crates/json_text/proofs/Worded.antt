@@ -1,7 +1,7 @@
 -- The words of a line, token by token.
 use Rattle.std.proofs.Common.{◌≡◌, ◌∷◌, ◌∙◌, ap, true, false, List, ℕ, filter}
 use Rattle.std.proofs.lemmas.Bool.{cond-true, cond-false}
-use Rattle.tree_text_rules.specs.Line.{Token, has_bytes}
+use Rattle.report_rules.specs.tree_text_rules.Line.{Token, has_bytes}
 
 pub word_found : (token : Token) (behind all : List Token) → all ≡ token ∷ behind
     → has_bytes token ≡ true → filter has_bytes all ≡ token ∷ filter has_bytes behind

@@ -1,7 +1,7 @@
 -- Words and cells of the code, as the rules speak of them.
 use Rattle.std.specs.Prelude.{ℕ, List, Option, filter}
 use Rattle.std.specs.Borrow.{Bor}
-use Rattle.tree_text_rules.specs.Line.{Token, has_bytes}
+use Rattle.report_rules.specs.tree_text_rules.Line.{Token, has_bytes}
 use Rattle.tree_reading.specs.View.{tokens_in}
 use Rattle.report_rules.specs.RangeTable as rules
 use Rattle.json_text.specs.declared.words.Cells.{Cells}

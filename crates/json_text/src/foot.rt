@@ -1,27 +1,23 @@
 //! What follows units and materials: the money of one year, the investment, and the units left out.
 ghost use Rattle.std.specs.Prelude.{◌≡◌, ◌*ℤ◌, pos, ◌<◌, ◌++◌, ◌∷◌, [], ℕ, true, IfOk, OnOk, map};
 ghost use Rattle.std.specs.Prelude.{length, codes};
-ghost use Rattle.number_sets.specs.Sets.{has};
-ghost use Rattle.pns_problem.specs.Printing.{printed};
-ghost use Rattle.tree_rules.specs.Claim.{IsFeasible};
+ghost use Rattle.report_rules.specs.number_sets.Sets.{has};
+ghost use Rattle.tree_reading.specs.pns_problem.Printing.{printed};
+ghost use Rattle.report_rules.specs.tree_rules.Claim.{IsFeasible};
 ghost use Rattle.report_rules.specs.Json.{with_comma};
 ghost use Rattle.report_rules.specs.Facts as facts;
 ghost use Rattle.report_rules.specs.Amounts.{quotient, unit_sum, cost_sum};
 ghost use Rattle.report_rules.specs.Report.{left_out};
 
 use crate::members::number_member;
-use branch_tree::Network;
 use crate::{Json, push_line, push_with_commas};
-use pgraph::Site;
-use pns_problem::Problem;
-use report_amounts::{Number, cost_sum, unit_sum};
 use report_rules::{CostPart, UnitAmount};
-use report_tables::left_out;
+use report_tables::{Number, cost_sum, left_out, unit_sum};
 use std::alloc::{AllocError, Global};
-use unit_sets::UnitSet;
+use tree_reading::{Network, Problem, Site, UnitSet};
 
 /// The cost of the network in 10^-18, not yet divided by the payout period.
-#[tactic(auto, unfolding(report_rules::specs::Amounts::quotient))]
+#[tactic(auto, unfolding(crate::specs::Unfolded::quotient))]
 fn claimed(network: &Network) -> Number
     ensures { result ≡ quotient network.now.cost network.now.d }
 {
@@ -30,7 +26,7 @@ fn claimed(network: &Network) -> Number
 }
 
 /// 1 over 10^18 and the payout period.
-#[tactic(auto, unfolding(report_rules::specs::Amounts::quotient))]
+#[tactic(auto, unfolding(crate::specs::Unfolded::quotient))]
 pub(crate) fn year(problem: &Problem) -> Number
     ensures { result ≡ quotient (pos 1) (pos 1000000000000000000 *ℤ problem.now.payout) }
 {

@@ -1,18 +1,16 @@
 //! The head: counts and the payout period.
 ghost use Rattle.std.specs.Prelude.{◌≡◌, ◌<◌, ◌++◌, ◌∷◌, [], ℕ, true, IfOk, OnOk, map, length};
 ghost use Rattle.std.specs.Prelude.{unsigned_abs};
-ghost use Rattle.number_sets.specs.Sets.{has};
-ghost use Rattle.pns_problem.specs.Printing.{printed};
-ghost use Rattle.flow_rules.specs.Net.{net_of, materials_of};
+ghost use Rattle.report_rules.specs.number_sets.Sets.{has};
+ghost use Rattle.tree_reading.specs.pns_problem.Printing.{printed};
+ghost use Rattle.report_rules.specs.flow_rules.Net.{net_of, materials_of};
 ghost use Rattle.report_rules.specs.Facts as facts;
 
 use crate::members::count_member;
-use branch_tree::Network;
 use crate::{Json, push_line, push_with_commas};
-use pgraph::Site;
-use pns_problem::Problem;
-use report_amounts::materials_in;
+use report_tables::materials_in;
 use std::alloc::{AllocError, Global};
+use tree_reading::{Network, Problem, Site};
 
 fn units_in(network: &Network) -> u64
     ensures { result ≡ length network.now.units }

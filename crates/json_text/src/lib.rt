@@ -43,4 +43,8 @@ pub use object::table_json;
 pub use piece::Json;
 pub use ranking::{first_of, networks_member};
 pub use read::{is_table, read_table};
+pub use report_tables::{
+    HeadedVerdict, LowerBound, Marginals, Measures, Plant, RankVerdict, Verdict, marginals_of,
+    ranking_of,
+};
 pub use text::{bare_of, facts_of};

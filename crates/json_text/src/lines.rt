@@ -1,6 +1,6 @@
 //! Pieces in lines of their own.
 ghost use Rattle.std.specs.Prelude.{◌≡◌, ◌++◌, ◌∷◌, [], OnOk, map};
-ghost use Rattle.pns_problem.specs.Printing.{printed};
+ghost use Rattle.tree_reading.specs.pns_problem.Printing.{printed};
 ghost use Rattle.report_rules.specs.Json.{with_comma, comma_lines, array_lines};
 
 use crate::piece::{Json, push_quoted};

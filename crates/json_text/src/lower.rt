@@ -1,23 +1,22 @@
 //! The lower bound of a tree or of a ranking that is not finished, and the gap between the network
 //! and it.
 ghost use Rattle.std.specs.Prelude.{◌≡◌, pos, IfOk, codes};
-ghost use Rattle.tree_rules.specs.Claim as claims;
-ghost use Rattle.branch_tree.specs.View.{claim_of};
+ghost use Rattle.report_rules.specs.tree_rules.Claim as claims;
+ghost use Rattle.tree_reading.specs.branch_tree.View.{claim_of};
 ghost use Rattle.report_rules.specs.Amounts.{quotient};
 ghost use Rattle.report_rules.specs.Json.{member};
 ghost use Rattle.report_rules.specs.JsonLower as rules;
 ghost use Rattle.report_rules.specs.RankLow.{best_claim};
 
-use crate::foot::year;
-use branch_tree::{Claim, Network};
 use crate::Json;
-use pns_problem::Problem;
-use report_amounts::{Number, gap_above};
+use crate::foot::year;
 use report_rules::{LowerBound, Verdict};
+use report_tables::{Number, gap_above};
 use std::alloc::{AllocError, Global};
+use tree_reading::{Claim, Network, Problem};
 
 /// The bound in 10^-18, not yet divided by the payout period.
-#[tactic(auto, unfolding(report_rules::specs::Amounts::quotient))]
+#[tactic(auto, unfolding(crate::specs::Unfolded::quotient))]
 fn bounding(low: &LowerBound) -> Number
     ensures { result ≡ quotient low.now.cost low.now.d }
 {
@@ -59,7 +58,7 @@ pub fn low_member(alloc: Global, problem: &Problem, verdict: Verdict) -> Result<
 }
 
 /// The gap, or `null` if the network costs nothing.
-#[tactic(auto, unfolding(report_rules::specs::Lower::gap_over))]
+#[tactic(auto, unfolding(crate::specs::Unfolded::gap_over))]
 fn gap_over(alloc: Global, network: &Network, low: &LowerBound) -> Result<Json, AllocError>
     ensures { IfOk result (λ json. json ≡ rules.gap_over network.now low.now) }
 {

@@ -1,23 +1,21 @@
 //! The materials of a network.
 ghost use Rattle.std.specs.Prelude.{◌≡◌, ◌<◌, ◌++◌, ℕ, true, IfOk, OnOk, map, length, codes};
-ghost use Rattle.number_sets.specs.Sets.{has};
-ghost use Rattle.pns_problem.specs.Printing.{printed};
-ghost use Rattle.problem_rules.specs.Problem.{material_at};
-ghost use Rattle.text_rules.specs.Canonical.{kind_word};
-ghost use Rattle.flow_rules.specs.Net.{net_of, materials_of};
-ghost use Rattle.tree_rules.specs.Claim.{IsFeasible};
+ghost use Rattle.report_rules.specs.number_sets.Sets.{has};
+ghost use Rattle.tree_reading.specs.pns_problem.Printing.{printed};
+ghost use Rattle.report_rules.specs.problem_rules.Problem.{material_at};
+ghost use Rattle.report_rules.specs.text_rules.Canonical.{kind_word};
+ghost use Rattle.report_rules.specs.flow_rules.Net.{net_of, materials_of};
+ghost use Rattle.report_rules.specs.tree_rules.Claim.{IsFeasible};
 ghost use Rattle.report_rules.specs.Facts as facts;
 
 use crate::members::{limit_member, number_member, text_member};
-use branch_tree::Network;
 use crate::{Json, push_array};
-use pgraph::Site;
-use pns_problem::Problem;
-use report_amounts::{kind_word, materials_in};
-use report_amounts::{Marginals, cost, material_of, net, price, unit_sum};
 use report_rules::UnitAmount;
-use report_tables::material_limit;
+use report_tables::{
+    Marginals, cost, kind_word, material_limit, material_of, materials_in, net, price, unit_sum,
+};
 use std::alloc::{AllocError, Global};
+use tree_reading::{Network, Problem, Site};
 
 fn kind_member(alloc: Global, problem: &Problem, j: u32) -> Result<Json, AllocError>
     requires { j < length problem.now.materials }

@@ -4,7 +4,7 @@ ghost use Rattle.report_rules.specs.Json.{null, member};
 ghost use Rattle.report_rules.specs.Facts as facts;
 
 use crate::Json;
-use report_amounts::Number;
+use report_tables::Number;
 use std::alloc::{AllocError, Global};
 
 /// The word `null` under the key.
@@ -35,7 +35,7 @@ pub(crate) fn number_member(alloc: Global, key: &str, number: &Number) -> Result
     Json::member(alloc, key, &Json::number(alloc, number.fraction())?)
 }
 
-#[tactic(auto, unfolding(report_rules::specs::Facts::limit_json))]
+#[tactic(auto, unfolding(crate::specs::Unfolded::limit_json))]
 fn limit_json(alloc: Global, words: &str) -> Result<Json, AllocError>
     ensures { IfOk result (λ json. json ≡ facts.limit_json words.now) }
 {

@@ -1,19 +1,17 @@
 //! The JSON object of a table.
 ghost use Rattle.std.specs.Prelude.{◌≡◌, ◌<ℤ◌, pos, IfOk, map, codes};
-ghost use Rattle.integer_laws.specs.Range.{InRange};
-ghost use Rattle.pns_problem.specs.Printing.{printed};
-ghost use Rattle.flow_rules.specs.Net.{million};
+ghost use Rattle.report_rules.specs.integer_laws.Range.{InRange};
+ghost use Rattle.tree_reading.specs.pns_problem.Printing.{printed};
+ghost use Rattle.report_rules.specs.flow_rules.Net.{million};
 ghost use Rattle.report_rules.specs.Amounts.{quotient};
 ghost use Rattle.report_rules.specs.Json.{member, truth};
 ghost use Rattle.report_rules.specs.Object as rules;
 
-use crate::{Json, push_comma_lines, push_line};
-use crate::text_member;
-use pns_problem::Problem;
-use report_rules::{End, Row};
-use report_amounts::Number;
-use report_rules::Spot;
+use crate::{Json, push_comma_lines, push_line, text_member};
+use report_rules::{End, Row, Spot};
+use report_tables::Number;
 use std::alloc::{AllocError, Global};
+use tree_reading::Problem;
 
 fn kind_word(spot: Spot) -> &'static str
     ensures { result.now ≡ rules.kind_word spot }
@@ -35,7 +33,7 @@ fn name_of(problem: &Problem, spot: Spot) -> &str
 }
 
 /// num / den.
-#[tactic(auto, unfolding(report_rules::specs::Amounts::quotient))]
+#[tactic(auto, unfolding(crate::specs::Unfolded::quotient))]
 fn quotient(num: i128, den: i128) -> Number
     requires num_in_range { InRange num }
     requires den_in_range { InRange den }

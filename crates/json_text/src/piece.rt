@@ -1,12 +1,12 @@
 //! Pieces of JSON text in one line.
 ghost use Rattle.std.specs.Prelude.{◌≡◌, ◌++◌, ◌∷◌, [], IfOk, OnOk, decimal, flat_map, option_map};
-ghost use Rattle.integer_laws.specs.Fraction.{fraction_text};
+ghost use Rattle.report_rules.specs.integer_laws.Fraction.{fraction_text};
 ghost use Rattle.report_rules.specs.Json.{escaped, quoted, null, truth, parted, array, member};
 ghost use Rattle.report_rules.specs.Json.{object};
 ghost use Rattle.report_rules.specs.Value.{value_text, pair_of, number_json};
 
 use crate::value::value_text;
-use exact_numbers::Frac;
+use report_tables::Frac;
 use std::alloc::{AllocError, Global};
 use std::marker::Model;
 
@@ -77,7 +77,7 @@ impl Json {
     }
 
     /// A number twice: in decimal with 17 digits, and exactly. If there is none, both are `null`.
-    #[tactic(auto, unfolding(report_rules::specs::Value::number_json))]
+    #[tactic(auto, unfolding(crate::specs::Unfolded::number_json))]
     pub fn number(alloc: Global, number: Option<Frac>) -> Result<Json, AllocError>
         ensures { IfOk result
             (λ json. json

@@ -1,24 +1,20 @@
 //! The networks of a ranking.
 ghost use Rattle.std.specs.Prelude.{◌≡◌, ◌<◌, ◌+◌, ◌^◌, ◌++◌, IfOk, OnOk, length, codes};
-ghost use Rattle.pns_problem.specs.Printing.{printed};
+ghost use Rattle.tree_reading.specs.pns_problem.Printing.{printed};
 ghost use Rattle.report_rules.specs.Json.{member};
 ghost use Rattle.report_rules.specs.JsonRanked as rules;
 ghost use Rattle.report_tables.specs.First.{IsFirstFeasible};
 
+use crate::Json;
 use crate::foot::{names, total_member};
 use crate::members::{count_member, number_member};
 use crate::text::{bare_of, facts_of};
-use branch_tree::Network;
-use crate::Json;
-use pgraph::Site;
-use pns_problem::Problem;
-use report_amounts::size_at;
-use report_amounts::{Marginals, above_first, share_above};
+use report_tables::{Marginals, above_first, share_above, size_at};
 use std::alloc::{AllocError, Global};
-use unit_sets::UnitSet;
+use tree_reading::{Network, Problem, Site, UnitSet};
 
 /// What the network costs more than the first as a share of that, or `null` if that costs nothing.
-#[tactic(auto, unfolding(report_rules::specs::Ranked::share_above_json))]
+#[tactic(auto, unfolding(crate::specs::Unfolded::share_above_json))]
 fn share_above_json(alloc: Global, first: &Network, network: &Network) -> Result<Json, AllocError>
     ensures { IfOk result (λ json. json ≡ rules.share_above_json first.now network.now) }
 {
@@ -53,7 +49,7 @@ fn names_member(
 }
 
 /// Appends the name of the unit if its size is 0.
-#[tactic(auto, unfolding(report_rules::specs::Ranked::idle_json))]
+#[tactic(auto, unfolding(crate::specs::Unfolded::idle_json))]
 fn push_if_idle(
     alloc: Global,
     values: &mut Vec<Json>,

@@ -1,6 +1,6 @@
 //! The whole text.
 ghost use Rattle.std.specs.Prelude.{◌≡◌, ◌<◌, ◌-◌, ◌^◌, [], Ok, IfOk, IfErr, length};
-ghost use Rattle.text_lines.specs.Tells.{Tells};
+ghost use Rattle.tree_reading.specs.text_lines.Tells.{Tells};
 ghost use Rattle.tree_reading.specs.Place.{IsCut, lines_at};
 ghost use Rattle.tree_reading.specs.Tells.{IsOfLine};
 ghost use Rattle.tree_reading.specs.View.{line_of};
@@ -8,11 +8,9 @@ ghost use Rattle.report_rules.specs.RangeTable as rules;
 
 use crate::row::{has_headings, row_of};
 use crate::words::{has_no_word, is_first};
-use pns_problem::Problem;
 use report_rules::Row;
 use std::alloc::Global;
-use tree_reading::{Cut, Line, TreeFault, kind_at, line_at};
-use tree_text_rules::TreeKind;
+use tree_reading::{Cut, Line, Problem, TreeFault, TreeKind, kind_at, line_at};
 
 /// Whether the text is a table, by its first line.
 pub fn is_table(bytes: &[u8]) -> bool

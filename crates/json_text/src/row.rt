@@ -1,18 +1,15 @@
 //! A line of a table.
 ghost use Rattle.std.specs.Prelude.{◌≡◌};
-ghost use Rattle.tree_text_rules.specs.Token as tokens;
+ghost use Rattle.report_rules.specs.tree_text_rules.Token as tokens;
 ghost use Rattle.tree_reading.specs.View.{line_of};
 ghost use Rattle.report_rules.specs.RangeTable as rules;
 ghost use Rattle.json_text.specs.View.{cells_of};
 
 use crate::words::{Cells, cells_of};
-use pns_problem::Problem;
-use report_rules::{End, Row};
-use report_rules::Spot;
+use report_rules::{End, Row, Spot};
 use std::str;
-use text_lines::amount::read_amount;
-use tree_reading::Line;
-use tree_text_rules::TreeKind;
+use tree_reading::amount::read_amount;
+use tree_reading::{Line, Problem, TreeKind};
 
 fn material_of(problem: &Problem, name: &[u8]) -> Result<u32, TreeKind>
     ensures { result ≡ tokens.material_of problem.now name.now }

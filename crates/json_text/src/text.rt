@@ -1,18 +1,17 @@
 //! The whole object.
 ghost use Rattle.std.specs.Prelude.{◌≡◌, IfOk};
-ghost use Rattle.pns_problem.specs.Printing.{printed};
-ghost use Rattle.tree_rules.specs.Claim.{IsFeasible};
+ghost use Rattle.tree_reading.specs.pns_problem.Printing.{printed};
+ghost use Rattle.report_rules.specs.tree_rules.Claim.{IsFeasible};
 ghost use Rattle.report_rules.specs.Facts.{fact_lines, bare_lines};
 
 use crate::foot::push_foot;
 use crate::head::push_head;
 use crate::materials::push_materials;
 use crate::units::push_units;
-use branch_tree::Network;
 use crate::{Json, push_comma_lines, push_line};
-use pgraph::Site;
-use report_amounts::Marginals;
+use report_tables::Marginals;
 use std::alloc::{AllocError, Global};
+use tree_reading::{Network, Site};
 
 /// The object of a network with these marginals on its problem, which begins with the members of
 /// the head.

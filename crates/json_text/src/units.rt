@@ -1,21 +1,19 @@
 //! The units of a network.
 ghost use Rattle.std.specs.Prelude.{◌≡◌, ◌<◌, ◌++◌, ℕ, true, IfOk, OnOk, map, length, codes};
-ghost use Rattle.number_sets.specs.Sets.{has};
-ghost use Rattle.pns_problem.specs.Printing.{printed};
+ghost use Rattle.report_rules.specs.number_sets.Sets.{has};
+ghost use Rattle.tree_reading.specs.pns_problem.Printing.{printed};
 ghost use Rattle.report_rules.specs.Json.{member};
 ghost use Rattle.report_rules.specs.Facts as facts;
 
 use crate::members::{limit_member, number_member, text_member};
-use branch_tree::Network;
 use crate::{Json, push_array};
-use pns_problem::Problem;
-use report_amounts::{Marginals, amount, share_of, size, unit_of};
 use report_rules::UnitAmount;
-use report_tables::{NO_BOUND, unit_limit};
+use report_tables::{Marginals, NO_BOUND, amount, share_of, size, unit_limit, unit_of};
 use std::alloc::{AllocError, Global};
+use tree_reading::{Network, Problem};
 
 /// The share of the upper bound. It is `null` if that bound is not above 0, or stands for none.
-#[tactic(auto, unfolding(report_rules::specs::Facts::share_json))]
+#[tactic(auto, unfolding(crate::specs::Unfolded::share_json))]
 fn share_json(
     alloc: Global,
     problem: &Problem,

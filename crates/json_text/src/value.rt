@@ -5,8 +5,7 @@ ghost use Rattle.report_rules.specs.Decimal.{scaled_text};
 ghost use Rattle.report_rules.specs.Value.{value_text};
 
 use crate::digits::decimal_of;
-use report_amounts::push_places;
-use exact_numbers::Frac;
+use report_tables::{Frac, push_places};
 use std::alloc::{AllocError, Global};
 
 /// A number over a power of ten, as a whole and what is left of it.

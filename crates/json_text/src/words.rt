@@ -4,8 +4,7 @@ ghost use Rattle.tree_reading.specs.View.{line_of};
 ghost use Rattle.report_rules.specs.RangeTable as rules;
 ghost use Rattle.json_text.specs.View.{cells_of, words_in};
 
-use tree_reading::{Line, first_token};
-use tree_text_rules::TreeKind;
+use tree_reading::{Line, TreeKind, first_token};
 
 /// The five words of a line of a table.
 #[derive(Clone, Copy)]

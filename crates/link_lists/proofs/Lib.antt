@@ -1,5 +1,6 @@
 pub mod Cells
 pub mod Chains
+pub mod Cited
 pub mod Represents
 pub mod Stack
 pub mod Vacancies

@@ -1,17 +1,17 @@
 -- The bytes of a graph are those of its lines.
 use Rattle.std.proofs.Common.{◌≡◌, refl, sym, subst, inl, inr, ℕ, Bool, List}
 use Rattle.std.specs.Prelude.{Option, Some, Result, Ok, Err, IfOk}
-use Rattle.number_sets.specs.Sets.{has}
-use Rattle.problem_rules.specs.Problem.{Problem}
-use Rattle.pns_problem.specs.Printing.{printed}
-use Rattle.pns_rules.specs.Shape.{shape_of}
-use Rattle.tree_rules.specs.Claim.{Network}
-use Rattle.studio_rules.specs.Max.{IsMaximal, HasNoStructure}
-use Rattle.report_rules.specs.Graph.{graph_lines, empty_lines}
-use Rattle.studio_rules.specs.Lines.{text_of}
-use Rattle.studio_rules.specs.Graph.{AreGraphLines, AreSceneLines}
-use Rattle.studio_rules.specs.declared.scene.Scene.{Scene}
-use Rattle.studio_rules.specs.declared.scene.Scene.TheVariants as scenes
+use Rattle.verdicts.specs.number_sets.Sets.{has}
+use Rattle.verdicts.specs.problem_rules.Problem.{Problem}
+use Rattle.verdicts.specs.pns_problem.Printing.{printed}
+use Rattle.verdicts.specs.pns_rules.Shape.{shape_of}
+use Rattle.verdicts.specs.tree_rules.Claim.{Network}
+use Rattle.command_files.specs.studio_rules.Max.{IsMaximal, HasNoStructure}
+use Rattle.verdicts.specs.report_rules.Graph.{graph_lines, empty_lines}
+use Rattle.command_files.specs.studio_rules.Lines.{text_of}
+use Rattle.command_files.specs.studio_rules.Graph.{AreGraphLines, AreSceneLines}
+use Rattle.command_files.specs.studio_rules.declared.scene.Scene.{Scene}
+use Rattle.command_files.specs.studio_rules.declared.scene.Scene.TheVariants as scenes
 
 pub graph_told : {V E : Type 0} (items : V → List ℕ) (p : Problem) (w : Option Network)
     (ws : List Network) (t : ℕ → Bool) (r : Result V E) → IsMaximal (shape_of p) t

@@ -1,12 +1,12 @@
 -- What is said of a tree that may have a head: a head without lines changes nothing.
 use Rattle.std.proofs.Common.{◌≡◌, true, false, ℕ, List, [], ◌∷◌}
-use Rattle.problem_rules.specs.Problem.{Problem}
-use Rattle.tree_rules.specs.Claim.{Claim}
-use Rattle.tree_rules.specs.Accepted.{Tree}
-use Rattle.tree_rules.specs.Head.{HeadLine}
-use Rattle.report_rules.specs.HeadedVerdict.{is_plain}
-use Rattle.report_rules.specs.Measures.{Measures}
-use Rattle.studio_rules.specs.Report.{ReportSays, ReportSaysBy, HeadedReportSays}
+use Rattle.verdicts.specs.problem_rules.Problem.{Problem}
+use Rattle.verdicts.specs.tree_rules.Claim.{Claim}
+use Rattle.verdicts.specs.tree_rules.Accepted.{Tree}
+use Rattle.verdicts.specs.tree_rules.Head.{HeadLine}
+use Rattle.verdicts.specs.report_rules.HeadedVerdict.{is_plain}
+use Rattle.verdicts.specs.report_rules.Measures.{Measures}
+use Rattle.command_files.specs.studio_rules.Report.{ReportSays, ReportSaysBy, HeadedReportSays}
 
 pub plain_says : (ms : Measures) (p : Problem) (claim : Claim) (head : List HeadLine) (tree : Tree)
     (lines : List (List ℕ)) → is_plain head ≡ true → ReportSays ms p claim tree lines

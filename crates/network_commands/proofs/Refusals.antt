@@ -1,15 +1,15 @@
 -- A claim that fails is refused for the cause.
 use Rattle.std.proofs.Common.{◌∷◌, [], false, refl, inl, inr, ℕ, List}
-use Rattle.problem_rules.specs.Problem.{Problem}
-use Rattle.tree_rules.specs.declared.why.Why.{Why}
-use Rattle.tree_rules.specs.Claim.{Claim, network, infeasible, unknown, ClaimFails}
-use Rattle.studio_rules.specs.RefusalWords.{claim_line}
-use Rattle.studio_rules.specs.Lines.{line}
-use Rattle.studio_rules.specs.Ending.{Tells, Only, OrMemory}
-use Rattle.studio_rules.specs.declared.status.Status.{Status}
-use Rattle.studio_rules.specs.declared.status.Status.TheVariants.{BadClaim}
-use Rattle.command_files.proofs.Ending.{only_or_memory_in, one_line}
-use Rattle.studio_rules.specs.Network.{IsRefusedFor, ClaimRefusal}
+use Rattle.verdicts.specs.problem_rules.Problem.{Problem}
+use Rattle.verdicts.specs.tree_rules.declared.why.Why.{Why}
+use Rattle.verdicts.specs.tree_rules.Claim.{Claim, network, infeasible, unknown, ClaimFails}
+use Rattle.command_files.specs.studio_rules.RefusalWords.{claim_line}
+use Rattle.command_files.specs.studio_rules.Lines.{line}
+use Rattle.command_files.specs.studio_rules.Ending.{Tells, Only, OrMemory}
+use Rattle.command_files.specs.studio_rules.declared.status.Status.{Status}
+use Rattle.command_files.specs.studio_rules.declared.status.Status.TheVariants.{BadClaim}
+use Rattle.command_files.proofs.Cited.{only_or_memory_in, one_line}
+use Rattle.command_files.specs.studio_rules.Network.{IsRefusedFor, ClaimRefusal}
 
 pub refused_for : (p : Problem) (claim : Claim) (why : Why) → ClaimFails false p claim why
     → IsRefusedFor p claim why

@@ -2,12 +2,13 @@
 use Rattle.std.proofs.Common.{◌≡◌, ◌++◌, ◌∷◌, [], ℕ, List, refl, sym, ap, ◌∙◌, append_assoc, map}
 use Rattle.std.specs.Prelude.{if◌then◌else◌}
 use Rattle.csv.specs.Writing.{default_writer, row_text, row_body, is_blank, quote_mark}
-use Rattle.problem_rules.specs.Problem.{Problem}
-use Rattle.tree_rules.specs.Claim.{Network}
-use Rattle.report_rules.specs.Table.{AreUnitRows, AreMaterialRows, unit_heading, material_heading}
-use Rattle.report_rules.specs.Table.{records_text}
-use Rattle.studio_rules.specs.Lines.{line, text_of}
-use Rattle.studio_rules.specs.Table.{AreTables}
+use Rattle.verdicts.specs.problem_rules.Problem.{Problem}
+use Rattle.verdicts.specs.tree_rules.Claim.{Network}
+use Rattle.verdicts.specs.report_rules.Table.{AreUnitRows, AreMaterialRows, unit_heading}
+use Rattle.verdicts.specs.report_rules.Table.{material_heading}
+use Rattle.verdicts.specs.report_rules.Table.{records_text}
+use Rattle.command_files.specs.studio_rules.Lines.{line, text_of}
+use Rattle.command_files.specs.studio_rules.Table.{AreTables}
 
 -- a record without its line feed
 abbrev record_line : List (List ℕ) → List ℕ

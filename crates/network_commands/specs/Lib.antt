@@ -1,1 +1,19 @@
 pub mod Texts
+pub use Rattle.verdicts.specs.number_sets as number_sets
+pub use Rattle.verdicts.specs.problem_rules as problem_rules
+pub use Rattle.verdicts.specs.text_rules as text_rules
+pub use Rattle.verdicts.specs.pns_rules as pns_rules
+pub use Rattle.verdicts.specs.flow_rules as flow_rules
+pub use Rattle.verdicts.specs.tree_rules as tree_rules
+pub use Rattle.verdicts.specs.tree_text_rules as tree_text_rules
+pub use Rattle.command_files.specs.studio_rules as studio_rules
+pub use Rattle.verdicts.specs.rank_laws as rank_laws
+pub use Rattle.verdicts.specs.pgraph as pgraph
+pub use Rattle.verdicts.specs.branch_tree as branch_tree
+pub use Rattle.verdicts.specs.tree_text_laws as tree_text_laws
+pub use Rattle.verdicts.specs.tree_reading as tree_reading
+pub use Rattle.verdicts.specs.tree_text as tree_text
+pub use Rattle.verdicts.specs.cert_check as cert_check
+pub use Rattle.verdicts.specs.tree_parts as tree_parts
+pub use Rattle.report_tables.specs.node_evaluation as node_evaluation
+pub use Rattle.verdicts.specs as verdicts

@@ -1,22 +1,16 @@
 //! The network of a claim.
 ghost use Rattle.std.specs.Prelude.{◌≡◌, ◌++◌, IfOk, IfErr, OnOk};
-ghost use Rattle.branch_tree.specs.View.{claim_of};
-ghost use Rattle.studio_rules.specs.RefusalWords.{claim_line};
-ghost use Rattle.studio_rules.specs.Lines.{line};
-ghost use Rattle.studio_rules.specs.Ending.{Ends, Tells, Only, OrMemory};
-ghost use Rattle.studio_rules.specs.declared.status.Status.TheVariants.{BadClaim};
-ghost use Rattle.studio_rules.specs.Network.{ClaimRefusal, ClaimsNetwork};
+ghost use Rattle.verdicts.specs.branch_tree.View.{claim_of};
+ghost use Rattle.command_files.specs.studio_rules.RefusalWords.{claim_line};
+ghost use Rattle.command_files.specs.studio_rules.Lines.{line};
+ghost use Rattle.command_files.specs.studio_rules.Ending.{Ends, Tells, Only, OrMemory};
+ghost use Rattle.command_files.specs.studio_rules.declared.status.Status.TheVariants.{BadClaim};
+ghost use Rattle.command_files.specs.studio_rules.Network.{ClaimRefusal, ClaimsNetwork};
 
-use branch_tree::{Claim, Network};
-use cert_check::check_claim;
 use command_files::say::tell_with;
-use studio_words::{Notes, no_network, refused};
-use pgraph::Site;
-use pns_io::{Outputs, Sink};
-use command_files::why_word;
+use command_files::{Notes, Status, no_network, refused, why_word};
 use std::alloc::Global;
-use studio_rules::Status;
-use tree_rules::Why;
+use verdicts::{Claim, Network, Outputs, Sink, Site, Why, check_claim};
 
 // Prints that a claim is refused, and the notes after it.
 fn say_why<K: Sink, E: Sink>(

@@ -1,26 +1,21 @@
 //! The command `graph` without a tree, and the graphs with a network in them.
 ghost use Rattle.std.specs.Prelude.{◌≡◌, ◌<◌, ◌^◌, [], ℕ, List, Some, None, IfOk, IfSome, true};
 ghost use Rattle.std.specs.Prelude.{length, option_map};
-ghost use Rattle.number_sets.specs.Sets.{has};
-ghost use Rattle.tree_rules.specs.Claim.{IsFeasible};
-ghost use Rattle.report_rules.specs.Graph.{graph_lines};
-ghost use Rattle.studio_rules.specs.Lines.{text_of};
-ghost use Rattle.studio_rules.specs.Reading.{FileSays};
-ghost use Rattle.studio_rules.specs.Graph.{AreGraphLines, AreSceneLines, PlantGraphWork};
-ghost use Rattle.studio_rules.specs.Ending.{Ends, Tells};
-ghost use Rattle.studio_rules.specs.Keeps.{Keeps};
+ghost use Rattle.verdicts.specs.number_sets.Sets.{has};
+ghost use Rattle.verdicts.specs.tree_rules.Claim.{IsFeasible};
+ghost use Rattle.verdicts.specs.report_rules.Graph.{graph_lines};
+ghost use Rattle.command_files.specs.studio_rules.Lines.{text_of};
+ghost use Rattle.command_files.specs.studio_rules.Reading.{FileSays};
+ghost use Rattle.command_files.specs.studio_rules.Graph.{AreGraphLines, AreSceneLines};
+ghost use Rattle.command_files.specs.studio_rules.Graph.{PlantGraphWork};
+ghost use Rattle.command_files.specs.studio_rules.Ending.{Ends, Tells};
+ghost use Rattle.command_files.specs.studio_rules.Keeps.{Keeps};
 
-use branch_tree::Network;
-use command_files::problem_of;
 use command_files::say::{say_memory, say_text};
+use command_files::{Scene, Status, problem_of};
 use graph_text::{empty_graph, graph_of};
-use structure_list::maximal;
-use pgraph::{Graph, Site};
-use pns_io::{Outputs, Shelf, Sink};
-use pns_problem::Problem;
 use std::alloc::{AllocError, Global};
-use studio_rules::{Scene, Status};
-use unit_sets::UnitSet;
+use verdicts::{Graph, Network, Outputs, Problem, Shelf, Sink, Site, UnitSet, maximal};
 
 /// The graph of the maximal structure, with the network in it if one is given, and with these
 /// networks as a table if there are any.

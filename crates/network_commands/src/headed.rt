@@ -1,26 +1,26 @@
 //! The report of a tree that may have a head.
 ghost use Rattle.std.specs.Prelude.{◌≡◌, ◌<◌, ◌^◌, ◌++◌, ◌∷◌, [], ℕ, List, true, false, length};
 ghost use Rattle.std.specs.Prelude.{IfOk, IfErr, OnOk, string_bytes};
-ghost use Rattle.tree_rules.specs.Claim.{ClaimPasses};
-ghost use Rattle.branch_tree.specs.View.{claim_of};
-ghost use Rattle.report_rules.specs.HeadedVerdict.{is_plain};
-ghost use Rattle.report_rules.specs.Marginal.{Marginals, AreClaimMarginals};
-ghost use Rattle.studio_rules.specs.Lines.{text_of};
-ghost use Rattle.studio_rules.specs.Report.{failing_head_line, headed_first_line, headed_tables};
-ghost use Rattle.studio_rules.specs.Report.{ReportSays, ReportSaysBy, HeadedVerdictSays};
-ghost use Rattle.studio_rules.specs.Report.{HeadedReportSays};
+ghost use Rattle.verdicts.specs.tree_rules.Claim.{ClaimPasses};
+ghost use Rattle.verdicts.specs.branch_tree.View.{claim_of};
+ghost use Rattle.verdicts.specs.report_rules.HeadedVerdict.{is_plain};
+ghost use Rattle.verdicts.specs.report_rules.Marginal.{Marginals, AreClaimMarginals};
+ghost use Rattle.command_files.specs.studio_rules.Lines.{text_of};
+ghost use Rattle.command_files.specs.studio_rules.Report.{failing_head_line, headed_first_line};
+ghost use Rattle.command_files.specs.studio_rules.Report.{headed_tables};
+ghost use Rattle.command_files.specs.studio_rules.Report.{ReportSays, ReportSaysBy};
+ghost use Rattle.command_files.specs.studio_rules.Report.{HeadedVerdictSays};
+ghost use Rattle.command_files.specs.studio_rules.Report.{HeadedReportSays};
 ghost use Rattle.verdicts.specs.Unjudged.{IsUnjudged, IsUnjudgedIf};
 
 use crate::verdict_lines::{network_text, push_failing, push_proved, verdict_text};
-use branch_tree::{Claim, Tree};
-use branch_tree::Head;
-use tree_rules::LineWhy;
-use pns_problem::Problem;
 use command_files::line_word;
-use report_rules::HeadedVerdict;
 use report_tables::Plant;
 use std::alloc::{AllocError, Global};
-use verdicts::{Unjudged, headed_verdict_of, is_plain, verdict_of};
+use verdicts::{
+    Claim, Head, HeadedVerdict, LineWhy, Problem, Tree, Unjudged, headed_verdict_of, is_plain,
+    verdict_of,
+};
 
 fn push_failing_head(text: &mut String, number: usize, why: LineWhy) -> Result<(), AllocError>
     ensures { OnOk result

@@ -22,8 +22,23 @@ pub mod table;
 mod verdict_lines;
 
 pub use claim::{network_of, say_refused};
+pub use command_files::{
+    Format, Notes, Scene, Source, Status, bad_node, bytes_of, fault, headed_of, line_word,
+    network_line, no_leaf, outputs, plant_of, problem_of, rank_why_word, refused, say,
+    say_tree_fault, tell_node, tree_kind_word, tree_of, unknown_material, unknown_unit, why_word,
+};
 pub use graph::list_graph;
 pub use headed::{headed_report_text, report_text_by};
 pub use network::{NetworkText, say_claimed};
 pub use report::say_reported;
+pub use report_tables::{Row, materials_in, push_six_digits, push_table, push_words};
 pub use verdict_lines::{push_gap_behind, push_low_words, verdict_text};
+pub use verdicts::{
+    Claim, Effort, Graph, Headed, MergeFault, Network, Node, OpenLeaf, Outputs, Part, PrintFault,
+    Problem, RankUnjudged, Refusal, Shelf, Sink, Site, Tail, Tree, TreeFault, TreeKind, UnitSet,
+    Unjudged, Watch, Why, grafts_are_partial, headed_verdict_of, is_plain, is_sound, merge_all,
+    network_has_one_fault, open_leaves, open_leaves_stand, order_is_free, parts_are_read_once,
+    plain_texts_are_headed, print_network, print_part, print_token, print_tree, rank_verdict_of,
+    ranking_has_one_fault, read_part, read_parts_are_spelled, read_texts_are_spelled,
+    spelled_parts_read, spelled_texts_read, units_named, verdict_of,
+};

@@ -1,23 +1,20 @@
 //! The text of the network of a claim.
 ghost use Rattle.std.specs.Prelude.{◌≡◌, ℕ, List, IfOk};
-ghost use Rattle.tree_rules.specs.Claim.{IsFeasible};
-ghost use Rattle.branch_tree.specs.View.{claim_of};
-ghost use Rattle.studio_rules.specs.Lines.{text_of};
-ghost use Rattle.studio_rules.specs.Network.{OnNetwork};
+ghost use Rattle.verdicts.specs.tree_rules.Claim.{IsFeasible};
+ghost use Rattle.verdicts.specs.branch_tree.View.{claim_of};
+ghost use Rattle.command_files.specs.studio_rules.Lines.{text_of};
+ghost use Rattle.command_files.specs.studio_rules.Network.{OnNetwork};
 ghost use Rattle.network_commands.specs.Texts.{TextWork};
-ghost use Rattle.studio_rules.specs.declared.status.Status.TheVariants.{Done};
-ghost use Rattle.studio_rules.specs.Ending.{Ends, Tells};
+ghost use Rattle.command_files.specs.studio_rules.declared.status.Status.TheVariants.{Done};
+ghost use Rattle.command_files.specs.studio_rules.Ending.{Ends, Tells};
 
 use crate::claim::network_of;
 use crate::graph::network_graph;
 use crate::table::tables;
-use branch_tree::{Claim, Network, Tree};
 use command_files::say::{say_memory, say_text};
-use pgraph::{Graph, Site};
-use pns_io::{Outputs, Sink};
-use pns_problem::Problem;
+use command_files::{Scene, Status};
 use std::alloc::{AllocError, Global};
-use studio_rules::{Scene, Status};
+use verdicts::{Claim, Graph, Network, Outputs, Problem, Sink, Site, Tree};
 
 /// Which text of a network is printed.
 #[derive(Clone, Copy, Debug, PartialEq, Eq)]

@@ -1,18 +1,16 @@
 //! The report of a tree.
 ghost use Rattle.std.specs.Prelude.{◌<◌, ◌^◌, length};
-ghost use Rattle.tree_reading.specs.Said.{said_by};
-ghost use Rattle.studio_rules.specs.Report.{ReportWork};
-ghost use Rattle.studio_rules.specs.Ending.{Ends, Tells};
+ghost use Rattle.verdicts.specs.tree_reading.Said.{said_by};
+ghost use Rattle.command_files.specs.studio_rules.Report.{ReportWork};
+ghost use Rattle.command_files.specs.studio_rules.Ending.{Ends, Tells};
 
 use crate::claim::say_refused;
 use crate::headed::headed_report_text;
+use command_files::Status;
 use command_files::say::{say_memory, say_text};
-use pns_io::{Outputs, Sink};
 use report_tables::Plant;
 use std::alloc::Global;
-use studio_rules::Status;
-use tree_reading::Headed;
-use verdicts::Unjudged;
+use verdicts::{Headed, Outputs, Sink, Unjudged};
 
 /// Prints what the tree proves of the claim, and its network if it has one, or the bounds that
 /// clash; or the first line of the claim that fails.

@@ -1,24 +1,19 @@
 //! The command `table`.
 ghost use Rattle.std.specs.Prelude.{◌≡◌, ℕ, List, IfOk};
-ghost use Rattle.tree_rules.specs.Claim.{IsFeasible};
-ghost use Rattle.studio_rules.specs.Lines.{text_of};
-ghost use Rattle.studio_rules.specs.Reading.{TwoFilesSay};
-ghost use Rattle.studio_rules.specs.HeadedFile.{AnyHead, OnHeaded};
-ghost use Rattle.studio_rules.specs.Network.{OnNetwork};
-ghost use Rattle.studio_rules.specs.Table.{AreTables, TableWork};
-ghost use Rattle.studio_rules.specs.Ending.{Ends, Says};
-ghost use Rattle.studio_rules.specs.Keeps.{Keeps};
+ghost use Rattle.verdicts.specs.tree_rules.Claim.{IsFeasible};
+ghost use Rattle.command_files.specs.studio_rules.Lines.{text_of};
+ghost use Rattle.command_files.specs.studio_rules.Reading.{TwoFilesSay};
+ghost use Rattle.command_files.specs.studio_rules.HeadedFile.{AnyHead, OnHeaded};
+ghost use Rattle.command_files.specs.studio_rules.Network.{OnNetwork};
+ghost use Rattle.command_files.specs.studio_rules.Table.{AreTables, TableWork};
+ghost use Rattle.command_files.specs.studio_rules.Ending.{Ends, Says};
+ghost use Rattle.command_files.specs.studio_rules.Keeps.{Keeps};
 
 use crate::network::{NetworkText, say_claimed};
-use branch_tree::Network;
-use command_files::{headed_of, problem_of};
-use pgraph::Site;
-use pns_io::{Outputs, Shelf, Sink};
-use pns_problem::Problem;
-use report_amounts::{material_table, unit_table};
+use command_files::{Status, headed_of, problem_of};
+use report_tables::{material_table, unit_table};
 use std::alloc::{AllocError, Global};
-use studio_rules::Status;
-use tree_reading::Headed;
+use verdicts::{Headed, Network, Outputs, Problem, Shelf, Sink, Site};
 
 /// The two tables, with an empty line between them.
 pub(crate) fn tables(

@@ -2,28 +2,23 @@
 //! bounds that clash.
 ghost use Rattle.std.specs.Prelude.{◌≡◌, ◌<◌, ◌^◌, ◌++◌, ◌∷◌, [], ℕ, List, true, length, IfOk};
 ghost use Rattle.std.specs.Prelude.{OnOk, None, string_bytes};
-ghost use Rattle.tree_rules.specs.Claim as claims;
-ghost use Rattle.tree_rules.specs.Claim.{ClaimPasses, IsFeasible};
-ghost use Rattle.branch_tree.specs.View.{claim_of};
-ghost use Rattle.report_rules.specs.Marginal.{Marginals, AreMarginals, AreClaimMarginals};
-ghost use Rattle.report_rules.specs.Report.{report_lines};
-ghost use Rattle.report_rules.specs.Verdict.{IsVerdict};
-ghost use Rattle.studio_rules.specs.Lines.{text_of};
-ghost use Rattle.studio_rules.specs.Report.{proved_line, low_words, gap_behind};
-ghost use Rattle.studio_rules.specs.Report.{none_found_line, unfinished_line, failing_line};
-ghost use Rattle.studio_rules.specs.Report.{first_line};
-ghost use Rattle.studio_rules.specs.Report.{tables_of, VerdictSays};
+ghost use Rattle.verdicts.specs.tree_rules.Claim as claims;
+ghost use Rattle.verdicts.specs.tree_rules.Claim.{ClaimPasses, IsFeasible};
+ghost use Rattle.verdicts.specs.branch_tree.View.{claim_of};
+ghost use Rattle.verdicts.specs.report_rules.Marginal.{Marginals, AreMarginals, AreClaimMarginals};
+ghost use Rattle.verdicts.specs.report_rules.Report.{report_lines};
+ghost use Rattle.verdicts.specs.report_rules.Verdict.{IsVerdict};
+ghost use Rattle.command_files.specs.studio_rules.Lines.{text_of};
+ghost use Rattle.command_files.specs.studio_rules.Report.{proved_line, low_words, gap_behind};
+ghost use Rattle.command_files.specs.studio_rules.Report.{none_found_line, unfinished_line};
+ghost use Rattle.command_files.specs.studio_rules.Report.{failing_line};
+ghost use Rattle.command_files.specs.studio_rules.Report.{first_line};
+ghost use Rattle.command_files.specs.studio_rules.Report.{tables_of, VerdictSays};
 
-use branch_tree::{Claim, Network, Tree};
-use report_tables::clashes_of;
-use report_amounts::marginals_of;
-use pns_problem::Problem;
 use command_files::why_word;
-use report_amounts::push_gap;
-use report_rules::{LowerBound, Verdict};
-use report_tables::{Plant, push_low, push_total, report_of};
+use report_tables::{Plant, clashes_of, marginals_of, push_gap, push_low, push_total, report_of};
 use std::alloc::{AllocError, Global};
-use tree_rules::Why;
+use verdicts::{Claim, LowerBound, Network, Problem, Tree, Verdict, Why};
 
 fn push_least(text: &mut String, problem: &Problem, network: &Network) -> Result<(), AllocError>
     ensures { OnOk result

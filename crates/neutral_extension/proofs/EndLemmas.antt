@@ -4,18 +4,19 @@ use Rattle.std.proofs.Common.{[], ◌∷◌, ◌++◌, ◌↔◌, length, refl, 
 use Rattle.std.proofs.Common.{eqb-true, lt-ltb, ltb-true, eq-eqb, arith}
 use Rattle.std.proofs.lemmas.Bool.{or_cases, or_left, or_right, and_from, and_parts, both_ways}
 use Rattle.std.proofs.lemmas.Bool.{false_from_ne_true, true_from_ne_false, not-true, cases_Bool}
-use Rattle.number_sets.specs.Sets.{has, listed, IsWithin}
-use Rattle.pns_rules.specs.Shape.{Shape, IsProper}
-use Rattle.pns_rules.specs.Structure.{is_made, is_used, is_needed, IsPath, HasPath, IsStructure}
-use Rattle.pns_rules.specs.Structure.{InFamily}
-use Rattle.pns_rules.specs.Nodes.{Node, Step, raw, rival, starve, loose, sole, IsPossible, after}
-use Rattle.pns_rules.specs.Nodes.{is_free}
-use Rattle.pns_rules.specs.Ends.{IsSound, remaining, IsUndecided, IsNever, IsNextStep, Leads}
-use Rattle.pns_rules.specs.Ends.{IsReduced, IsDecided}
-use Rattle.number_sets.proofs.SetLemmas.{has-listed, IsRising-listed, length-less}
-use Rattle.pns_rules.proofs.StructureLemmas.{is_made-from, is_made-some, is_used-from, is_used-some}
-use Rattle.pns_rules.proofs.StructureLemmas.{HasPath-within}
-use Rattle.pns_rules.proofs.StepLemmas.{steps_keep_families}
+use Rattle.pgraph.specs.number_sets.Sets.{has, listed, IsWithin}
+use Rattle.pgraph.specs.pns_rules.Shape.{Shape, IsProper}
+use Rattle.pgraph.specs.pns_rules.Structure.{is_made, is_used, is_needed, IsPath, HasPath}
+use Rattle.pgraph.specs.pns_rules.Structure.{IsStructure}
+use Rattle.pgraph.specs.pns_rules.Structure.{InFamily}
+use Rattle.pgraph.specs.pns_rules.Nodes.{Node, Step, raw, rival, starve, loose, sole, IsPossible}
+use Rattle.pgraph.specs.pns_rules.Nodes.{after}
+use Rattle.pgraph.specs.pns_rules.Nodes.{is_free}
+use Rattle.pgraph.specs.pns_rules.Ends.{IsSound, remaining, IsUndecided, IsNever, IsNextStep, Leads}
+use Rattle.pgraph.specs.pns_rules.Ends.{IsReduced, IsDecided}
+use Rattle.pgraph.proofs.number_sets.Cited.{has-listed, IsRising-listed, length-less}
+use Rattle.pgraph.proofs.pns_rules.Cited.{is_made-from, is_made-some, is_used-from, is_used-some}
+use Rattle.pgraph.proofs.pns_rules.Cited.{HasPath-within, steps_keep_families}
 
 -- ---- tests of a node
 

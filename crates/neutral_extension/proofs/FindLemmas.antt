@@ -6,17 +6,19 @@ use Rattle.std.proofs.Common.{inl, inr, lt-ltb, ltb-true, eq-eqb, ne_eqb, arith}
 use Rattle.std.proofs.lemmas.Bool.{or_cases, or_left, or_right, or_from, and_from, and_parts}
 use Rattle.std.proofs.lemmas.Bool.{both_ways, false_from_ne_true, true_from_ne_false, not-true}
 use Rattle.std.proofs.lemmas.Bool.{cases_Bool, cases_eq}
-use Rattle.number_sets.specs.Sets.{has, first, minus, meet, union, IsRising, IsWithin, Avoids}
-use Rattle.number_sets.proofs.SetLemmas.{has-minus, has-meet, has-union, below_not_had}
-use Rattle.pns_rules.specs.Shape.{Shape, IsProper}
-use Rattle.pns_rules.specs.Structure.{is_made, is_used, is_needed, IsPath, HasPath}
-use Rattle.pns_rules.specs.Nodes.{Node, raw, rival, starve, loose, sole, IsPossible, is_free}
-use Rattle.pns_rules.specs.Ends.{IsSound, IsDead, remaining, IsUndecided, IsNever, IsFirst, IsWhole}
-use Rattle.pns_rules.proofs.StructureLemmas.{is_made-from, is_made-some, is_used-from, is_used-some}
-use Rattle.pns_rules.proofs.StructureLemmas.{HasPath-within}
+use Rattle.pgraph.specs.number_sets.Sets.{has, first, minus, meet, union, IsRising, IsWithin}
+use Rattle.pgraph.specs.number_sets.Sets.{Avoids}
+use Rattle.pgraph.proofs.number_sets.Cited.{has-minus, has-meet, has-union, below_not_had}
+use Rattle.pgraph.specs.pns_rules.Shape.{Shape, IsProper}
+use Rattle.pgraph.specs.pns_rules.Structure.{is_made, is_used, is_needed, IsPath, HasPath}
+use Rattle.pgraph.specs.pns_rules.Nodes.{Node, raw, rival, starve, loose, sole, IsPossible, is_free}
+use Rattle.pgraph.specs.pns_rules.Ends.{IsSound, IsDead, remaining, IsUndecided, IsNever, IsFirst}
+use Rattle.pgraph.specs.pns_rules.Ends.{IsWhole}
+use Rattle.pgraph.proofs.pns_rules.Cited.{is_made-from, is_made-some, is_used-from, is_used-some}
+use Rattle.pgraph.proofs.pns_rules.Cited.{HasPath-within}
 use Rattle.pgraph.specs.Rivals.{IsRival}
 use Rattle.pgraph.specs.View.{node_of}
-use Rattle.pgraph.proofs.PathLemmas.{first_is}
+use Rattle.pgraph.proofs.Cited.{first_is}
 use Rattle.neutral_extension.specs.OpenLeaf.{IsOnlyMaker}
 use Rattle.neutral_extension.specs.Tests.{is_open, MakesRaw, IsLooseSet}
 use Rattle.neutral_extension.proofs.EndLemmas.{free_from, free_parts, remains_from, remains_parts}

@@ -8,13 +8,13 @@ use Rattle.std.proofs.lemmas.Bool.{false_from_ne_true, cases_eq, cases_lt}
 use Rattle.std.proofs.lemmas.List.{length-append, get_or_push, get_or_append_left, get_or_past}
 use Rattle.std.proofs.lemmas.List.{get_or-replicate, length-replicate, take_more, take_more_set}
 use Rattle.std.proofs.lemmas.List.{length-set, ext_get_or}
-use Rattle.number_sets.specs.Sets.{has, kept, first, IsSet, IsRising}
-use Rattle.number_sets.proofs.SetLemmas.{has-append, has_below}
+use Rattle.pgraph.specs.number_sets.Sets.{has, kept, first, IsSet, IsRising}
+use Rattle.pgraph.proofs.number_sets.Cited.{has-append, has_below}
 use Rattle.link_lists.specs.Lists.{Rows, row, pushed, unlinked, relinked, with_pushed, opened}
 use Rattle.link_lists.specs.Lists.{IsOnce, IsListed, IsTop, IsFree, AreApart}
 use Rattle.link_lists.specs.Lists as cells
-use Rattle.link_lists.proofs.Cells as laws
-use Rattle.pns_rules.specs.Shape.{Shape, IsProper}
+use Rattle.link_lists.proofs.Cited as laws
+use Rattle.pgraph.specs.pns_rules.Shape.{Shape, IsProper}
 use Rattle.neutral_extension.specs.Candidates.{makers_at, AreMakersOf}
 use Rattle.neutral_extension.specs.Cells.{cell_at, full_from, full_rows, unit_cells, out_cells}
 use Rattle.neutral_extension.specs.Cells.{makes_in, out_units, units_from, refilled, makers_of}

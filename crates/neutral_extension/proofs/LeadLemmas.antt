@@ -5,9 +5,9 @@ use Rattle.std.proofs.Common.{◌∙◌, subst, arith, inl, inr, eqb-true, eq-eq
 use Rattle.std.specs.List.{prefix_len}
 use Rattle.std.proofs.lemmas.List.{take_more, get_or-take, length-take-le}
 use Rattle.std.proofs.lemmas.Bool.{both_ways, or_cases, or_left, or_right}
-use Rattle.problem_rules.specs.Each.{Each}
-use Rattle.number_sets.specs.Sets.{has, kept, minus, with_number}
-use Rattle.number_sets.proofs.SetLemmas.{has-append, has-minus, has-with_number}
+use Rattle.pgraph.specs.problem_rules.Each.{Each}
+use Rattle.pgraph.specs.number_sets.Sets.{has, kept, minus, with_number}
+use Rattle.pgraph.proofs.number_sets.Cited.{has-append, has-minus, has-with_number}
 use Rattle.neutral_extension.specs.Candidates.{front_within, led}
 
 pub Each-push : {X : Type 0} (P : X → Type 0) (xs : List X) (x : X) → Each P xs → P x

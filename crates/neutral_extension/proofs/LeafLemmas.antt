@@ -5,16 +5,19 @@ use Rattle.std.proofs.Common.{subst, inl, inr, eqb-true, lt-ltb, eq-eqb, ne_eqb,
 use Rattle.std.proofs.lemmas.Bool.{or_cases, or_left, or_right, or_from, and_from, and_parts}
 use Rattle.std.proofs.lemmas.Bool.{both_ways, false_from_ne_true, true_from_ne_false, not-true}
 use Rattle.std.proofs.lemmas.Bool.{cases_Bool, cases_eq}
-use Rattle.number_sets.specs.Sets.{has, first, kept, minus, union, with_number, IsRising, IsWithin}
-use Rattle.number_sets.proofs.SetLemmas.{has-minus, has-union, has-kept, has-append}
-use Rattle.number_sets.proofs.SetLemmas.{has-with_number, same_tests, IsRising-kept}
-use Rattle.pns_rules.specs.Shape.{Shape, IsProper}
-use Rattle.pns_rules.specs.Structure.{is_made, is_used, is_needed, IsPath, HasPath}
-use Rattle.pns_rules.specs.Nodes.{Node, Step, raw, rival, starve, loose, sole, IsPossible, after}
-use Rattle.pns_rules.specs.Ends.{remaining}
-use Rattle.pns_rules.proofs.StructureLemmas.{is_made-from, is_made-some, is_used-from, is_used-some}
-use Rattle.pns_rules.proofs.StructureLemmas.{is_made-within, is_used-within}
-use Rattle.pgraph.proofs.ArcLemmas.{and_swap, below_more}
+use Rattle.pgraph.specs.number_sets.Sets.{has, first, kept, minus, union, with_number, IsRising}
+use Rattle.pgraph.specs.number_sets.Sets.{IsWithin}
+use Rattle.pgraph.proofs.number_sets.Cited.{has-minus, has-union, has-kept, has-append}
+use Rattle.pgraph.proofs.number_sets.Cited.{has-with_number}
+use Rattle.pgraph.proofs.number_sets.Cited.{same_tests, IsRising-kept}
+use Rattle.pgraph.specs.pns_rules.Shape.{Shape, IsProper}
+use Rattle.pgraph.specs.pns_rules.Structure.{is_made, is_used, is_needed, IsPath, HasPath}
+use Rattle.pgraph.specs.pns_rules.Nodes.{Node, Step, raw, rival, starve, loose, sole, IsPossible}
+use Rattle.pgraph.specs.pns_rules.Nodes.{after}
+use Rattle.pgraph.specs.pns_rules.Ends.{remaining}
+use Rattle.pgraph.proofs.pns_rules.Cited.{is_made-from, is_made-some, is_used-from, is_used-some}
+use Rattle.pgraph.proofs.pns_rules.Cited.{is_made-within, is_used-within}
+use Rattle.pgraph.proofs.Cited.{and_swap, below_more}
 use Rattle.neutral_extension.specs.Candidates.{Candidates, left, makers_at, AreMakersOf}
 use Rattle.neutral_extension.specs.OpenLeaf.{is_empty, is_single, IsTold, IsCounted, IsOnlyMaker}
 use Rattle.neutral_extension.specs.OpenLeaf.{AllLead}

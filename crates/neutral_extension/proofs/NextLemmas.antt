@@ -1,10 +1,11 @@
 -- The next step, kind by kind.
 use Rattle.std.proofs.Common.{◌≡◌, ℕ, ◌<◌, List, inl, inr, ◌⊎◌, arith}
-use Rattle.pns_rules.specs.Shape.{Shape}
-use Rattle.pns_rules.specs.Structure.{Clashes}
-use Rattle.pns_rules.specs.Nodes.{Node, Step, raw, rival, starve, loose, sole, IsPossible}
-use Rattle.pns_rules.specs.Ends.{IsDead, IsNever, IsFirst, IsEarlier, IsWhole, IsLive, IsNextStep}
-use Rattle.pns_rules.specs.Ends.{IsReduced}
+use Rattle.pgraph.specs.pns_rules.Shape.{Shape}
+use Rattle.pgraph.specs.pns_rules.Structure.{Clashes}
+use Rattle.pgraph.specs.pns_rules.Nodes.{Node, Step, raw, rival, starve, loose, sole, IsPossible}
+use Rattle.pgraph.specs.pns_rules.Ends.{IsDead, IsNever, IsFirst, IsEarlier, IsWhole, IsLive}
+use Rattle.pgraph.specs.pns_rules.Ends.{IsNextStep}
+use Rattle.pgraph.specs.pns_rules.Ends.{IsReduced}
 
 late : (a b : ℕ) (X : Type 0) → b < a → ((a < b) ⊎ ((a ≡ b) × X)) → ⊥
 late a b X h e = elim e [ inl lt ↦ omega arith | inr q ↦ let same = q.0 in omega arith ]

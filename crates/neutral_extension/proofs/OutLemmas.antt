@@ -7,15 +7,15 @@ use Rattle.std.proofs.lemmas.Bool.{or_cases, or_left, or_right, and_from, and_pa
 use Rattle.std.proofs.lemmas.Bool.{false_from_ne_true, not-true, cases_eq, cases_lt}
 use Rattle.std.proofs.lemmas.List.{length-map}
 use Rattle.std.specs.List.{filter}
-use Rattle.number_sets.specs.Sets.{has, kept, first, IsSet, IsRising, IsBelowAll}
-use Rattle.number_sets.proofs.SetLemmas.{has-kept, same_tests, has_below, below_not_had}
+use Rattle.pgraph.specs.number_sets.Sets.{has, kept, first, IsSet, IsRising, IsBelowAll}
+use Rattle.pgraph.proofs.number_sets.Cited.{has-kept, same_tests, has_below, below_not_had}
+use Rattle.pgraph.proofs.number_sets.Cited.{first_had}
 use Rattle.link_lists.specs.Lists.{Rows, row, without, unlinked, relinked, IsOnce, IsListed, IsTop}
 use Rattle.link_lists.specs.Lists.{AreApart}
 use Rattle.link_lists.specs.Lists as cells
-use Rattle.link_lists.proofs.Cells as laws
-use Rattle.link_lists.proofs.Vacancies.{relink_undoes_unlink, unlink_keeps_apart}
-use Rattle.number_sets.proofs.OptionLemmas.{first_had}
-use Rattle.pgraph.proofs.PathLemmas.{first_is}
+use Rattle.link_lists.proofs.Cited as laws
+use Rattle.link_lists.proofs.Cited.{relink_undoes_unlink, unlink_keeps_apart}
+use Rattle.pgraph.proofs.Cited.{first_is}
 use Rattle.neutral_extension.specs.Candidates.{makers_at}
 use Rattle.neutral_extension.specs.Cells.{cell_at, full_from, full_rows, unit_cells, out_cells}
 use Rattle.neutral_extension.specs.Cells.{makes_in, out_units, AreFrom, IsOut}

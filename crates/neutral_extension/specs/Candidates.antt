@@ -1,8 +1,8 @@
 -- The makers of each material, with some units taken out.
 use Rattle.std.specs.Prelude.{◌≡◌, ℕ, not, List, [], length, take, slice_index_or, ◌++◌}
 use Rattle.std.specs.List.{prefix_len}
-use Rattle.number_sets.specs.Sets.{has, kept, minus, IsSet}
-use Rattle.pns_rules.specs.Shape.{Shape}
+use Rattle.pgraph.specs.number_sets.Sets.{has, kept, minus, IsSet}
+use Rattle.pgraph.specs.pns_rules.Shape.{Shape}
 
 -- the makers of each material, and the units that are taken out, the last one last
 pub record Candidates : Type 0 where

@@ -2,8 +2,8 @@
 -- has the cell 128 x + u in the list x.
 use Rattle.std.specs.Prelude.{◌≡◌, ℕ, zero, suc, ◌+◌, ◌-◌, ◌*◌, ◌<◌, ◌≤◌, Bool, true, cond, not}
 use Rattle.std.specs.Prelude.{◌&&◌, nat_lt, List, [], ◌∷◌, ◌++◌, length, map, take}
-use Rattle.number_sets.specs.Sets.{has, IsSet}
-use Rattle.pns_rules.specs.Shape.{Shape}
+use Rattle.pgraph.specs.number_sets.Sets.{has, IsSet}
+use Rattle.pgraph.specs.pns_rules.Shape.{Shape}
 use Rattle.link_lists.specs.Lists.{Vacancy, Rows, row, filled, unlinked, IsListed, IsOnce, AreApart}
 use Rattle.link_lists.specs.Lists as cells
 use Rattle.neutral_extension.specs.Candidates.{makers_at}

@@ -1,13 +1,13 @@
 -- What one turn of an extension answers, and what the whole of it does (neutral extension of
 -- Friedler, Tarjan, Huang and Fan 1996).
 use Rattle.std.specs.Prelude.{ℕ, List, ◌↔◌, Bool}
-use Rattle.number_sets.specs.Sets.{IsSet}
-use Rattle.problem_rules.specs.Each.{Each}
-use Rattle.pns_rules.specs.Shape.{Shape}
-use Rattle.pns_rules.specs.Structure.{InFamily}
-use Rattle.pns_rules.specs.Nodes as rules
-use Rattle.pns_rules.specs.Ends.{IsSound, IsNextStep, Leads, EndsAt}
-use Rattle.pns_rules.specs.Ends as ends
+use Rattle.pgraph.specs.number_sets.Sets.{IsSet}
+use Rattle.pgraph.specs.problem_rules.Each.{Each}
+use Rattle.pgraph.specs.pns_rules.Shape.{Shape}
+use Rattle.pgraph.specs.pns_rules.Structure.{InFamily}
+use Rattle.pgraph.specs.pns_rules.Nodes as rules
+use Rattle.pgraph.specs.pns_rules.Ends.{IsSound, IsNextStep, Leads, EndsAt}
+use Rattle.pgraph.specs.pns_rules.Ends as ends
 use Rattle.pgraph.specs.View.{step_of}
 use Rattle.neutral_extension.specs.declared.end.Stop.{Stop}
 use Rattle.neutral_extension.specs.declared.end.Stop.TheVariants.{Decided, Dead, Clash, Branch}

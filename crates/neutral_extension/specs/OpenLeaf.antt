@@ -2,11 +2,11 @@
 -- changed.
 use Rattle.std.specs.Prelude.{◌≡◌, ℕ, ◌<◌, Bool, true, false, not, ◌&&◌, List, [], ◌∷◌, nat_lt, ◌↔◌}
 use Rattle.std.specs.Prelude.{MatchOption}
-use Rattle.number_sets.specs.Sets.{has}
-use Rattle.pns_rules.specs.Shape.{Shape}
-use Rattle.pns_rules.specs.Structure.{is_made, is_used, is_needed, Clashes, HasPath}
-use Rattle.pns_rules.specs.Nodes.{Node}
-use Rattle.pns_rules.specs.Ends.{remaining, IsNever, IsFirst}
+use Rattle.pgraph.specs.number_sets.Sets.{has}
+use Rattle.pgraph.specs.pns_rules.Shape.{Shape}
+use Rattle.pgraph.specs.pns_rules.Structure.{is_made, is_used, is_needed, Clashes, HasPath}
+use Rattle.pgraph.specs.pns_rules.Nodes.{Node}
+use Rattle.pgraph.specs.pns_rules.Ends.{remaining, IsNever, IsFirst}
 use Rattle.pgraph.specs.Rivals.{IsRival}
 use Rattle.pgraph.specs.View.{node_of}
 use Rattle.neutral_extension.specs.Candidates.{Candidates, left, AreMakersOf}

@@ -1,10 +1,10 @@
 -- Units of a node by what the steps need of them.
 use Rattle.std.specs.Prelude.{◌≡◌, ℕ, Bool, true, false, ◌&&◌, ◌<◌, nat_lt, List}
-use Rattle.number_sets.specs.Sets.{has}
-use Rattle.pns_rules.specs.Shape.{Shape}
-use Rattle.pns_rules.specs.Structure.{HasPath}
-use Rattle.pns_rules.specs.Nodes.{Node, is_free, sole, IsPossible}
-use Rattle.pns_rules.specs.Ends.{remaining, IsPathless}
+use Rattle.pgraph.specs.number_sets.Sets.{has}
+use Rattle.pgraph.specs.pns_rules.Shape.{Shape}
+use Rattle.pgraph.specs.pns_rules.Structure.{HasPath}
+use Rattle.pgraph.specs.pns_rules.Nodes.{Node, is_free, sole, IsPossible}
+use Rattle.pgraph.specs.pns_rules.Ends.{remaining, IsPathless}
 
 -- a unit of the graph that is neither taken in nor left out
 abbrev pub is_open : Shape → Node → ℕ → Bool

@@ -1,7 +1,7 @@
 //! The extension of a node, over the makers of each material.
 ghost use Rattle.std.specs.Prelude.{◌≡◌, ℕ, map, IfOk};
-ghost use Rattle.number_sets.specs.Sets.{has};
-ghost use Rattle.pns_rules.specs.Ends.{IsSound};
+ghost use Rattle.pgraph.specs.number_sets.Sets.{has};
+ghost use Rattle.pgraph.specs.pns_rules.Ends.{IsSound};
 ghost use Rattle.pgraph.specs.Tables.{shape};
 ghost use Rattle.pgraph.specs.View.{node_of, step_of};
 ghost use Rattle.neutral_extension.specs.Candidates.{AreMakersOf, IsFront};
@@ -11,9 +11,8 @@ use crate::end::Extended;
 use crate::makers::Makers;
 use crate::open_leaf::{leaf_after, leaf_at, take_out_all};
 use crate::turn::{Move, next_move};
-use pgraph::Graph;
+use pgraph::{Graph, Node, UnitSet};
 use std::alloc::{AllocError, Global};
-use unit_sets::{Node, UnitSet};
 
 /// The extension of the node, with each unit that goes out taken out of the makers.
 fn extend_from(

@@ -1,12 +1,11 @@
 //! What the units taken in need, use, make and exclude.
 ghost use Rattle.std.specs.Prelude.{◌≡◌, ◌<◌, ℕ, true};
-ghost use Rattle.number_sets.specs.Sets.{has, IsWithin};
-ghost use Rattle.pns_rules.specs.Structure.{is_made, is_used};
+ghost use Rattle.pgraph.specs.number_sets.Sets.{has, IsWithin};
+ghost use Rattle.pgraph.specs.pns_rules.Structure.{is_made, is_used};
 ghost use Rattle.pgraph.specs.Tables.{shape};
 ghost use Rattle.neutral_extension.specs.OpenLeaf.{IsIntake};
 
-use pgraph::Graph;
-use unit_sets::{MatSet, UnitSet};
+use pgraph::{Graph, MatSet, UnitSet};
 
 /// What the units taken in need, use, make and exclude.
 #[derive(Clone, Copy, Debug)]

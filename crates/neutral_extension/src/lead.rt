@@ -1,13 +1,12 @@
 //! Makers that are led from node to node.
 ghost use Rattle.std.specs.Prelude.{◌≡◌, ℕ};
-ghost use Rattle.number_sets.specs.Sets.{has};
+ghost use Rattle.pgraph.specs.number_sets.Sets.{has};
 ghost use Rattle.pgraph.specs.Tables.{shape};
 ghost use Rattle.neutral_extension.specs.Candidates.{led, AreMakersOf};
 
 use crate::makers::Makers;
 use crate::open_leaf::take_out_all;
-use pgraph::Graph;
-use unit_sets::UnitSet;
+use pgraph::{Graph, UnitSet};
 
 impl Makers {
     /// Makes the units of the set those that are taken out. Of those that are out it keeps the

@@ -30,3 +30,4 @@ mod units;
 pub use end::{Extended, Stop};
 pub use extension::{extend, extend_with};
 pub use makers::Makers;
+pub use pgraph::{Graph, Node, UnitSet};

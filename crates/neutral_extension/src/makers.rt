@@ -3,7 +3,7 @@
 ghost use Rattle.std.specs.Prelude.{◌≡◌, ◌<◌, ◌≤◌, ◌+◌, ◌-◌, ◌*◌, ℕ, true, false, List, [], ◌∷◌};
 ghost use Rattle.std.specs.Prelude.{◌++◌, length, take, IfOk};
 ghost use Rattle.std.specs.List.{prefix_len};
-ghost use Rattle.number_sets.specs.Sets.{has, first, IsSet};
+ghost use Rattle.pgraph.specs.number_sets.Sets.{has, first, IsSet};
 ghost use Rattle.link_lists.specs.Lists.{Rows, row, IsListed};
 ghost use Rattle.pgraph.specs.Tables.{shape};
 ghost use Rattle.neutral_extension.specs.Candidates.{left, AreMakersOf};
@@ -12,10 +12,9 @@ ghost use Rattle.neutral_extension.specs.Cells.{AreInBands, AreFrom, IsFilled, I
 ghost use Rattle.neutral_extension.specs.OpenLeaf.{is_empty, is_single};
 
 use link_lists::Lists;
-use pgraph::Graph;
+use pgraph::{Graph, MatSet, UnitSet};
 use std::alloc::{AllocError, Global};
 use std::marker::Model;
-use unit_sets::{MatSet, UnitSet};
 
 /// The makers of each material, as linked lists of those that are not taken out.
 #[derive(Drop)]

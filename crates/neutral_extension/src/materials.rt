@@ -1,8 +1,8 @@
 //! Materials at which an extension ends, and those whose consumers can all go.
 ghost use Rattle.std.specs.Prelude.{◌≡◌, ◌<◌, ℕ, true, MatchOption};
-ghost use Rattle.number_sets.specs.Sets.{has};
-ghost use Rattle.pns_rules.specs.Nodes.{starve, IsPossible};
-ghost use Rattle.pns_rules.specs.Ends.{IsSound, IsDead, IsUndecided, IsFirst, IsNever};
+ghost use Rattle.pgraph.specs.number_sets.Sets.{has};
+ghost use Rattle.pgraph.specs.pns_rules.Nodes.{starve, IsPossible};
+ghost use Rattle.pgraph.specs.pns_rules.Ends.{IsSound, IsDead, IsUndecided, IsFirst, IsNever};
 ghost use Rattle.pgraph.specs.Tables.{shape};
 ghost use Rattle.pgraph.specs.View.{node_of};
 ghost use Rattle.neutral_extension.specs.OpenLeaf.{Stands};

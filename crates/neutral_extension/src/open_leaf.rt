@@ -1,8 +1,8 @@
 //! A node while it is extended, with what its steps need of it.
 ghost use Rattle.std.specs.Prelude.{◌≡◌, ◌++◌, ℕ, true, false};
-ghost use Rattle.number_sets.specs.Sets.{has, minus};
-ghost use Rattle.pns_rules.specs.Nodes.{after};
-ghost use Rattle.pns_rules.specs.Ends.{IsSound, IsNextStep};
+ghost use Rattle.pgraph.specs.number_sets.Sets.{has, minus};
+ghost use Rattle.pgraph.specs.pns_rules.Nodes.{after};
+ghost use Rattle.pgraph.specs.pns_rules.Ends.{IsSound, IsNextStep};
 ghost use Rattle.pgraph.specs.Tables.{shape};
 ghost use Rattle.pgraph.specs.View.{node_of, step_of};
 ghost use Rattle.neutral_extension.specs.Candidates.{AreMakersOf};
@@ -14,8 +14,7 @@ use crate::scarce::{Scarce, scarce_after, scarce_of, used_after};
 use crate::sets::remaining_units;
 use crate::turn::taken;
 use crate::units::raw_makers;
-use pgraph::Graph;
-use unit_sets::{MatSet, Node, Step, UnitSet};
+use pgraph::{Graph, MatSet, Node, Step, UnitSet};
 
 /// A node with what its steps need of it. A step changes only what concerns the units that it takes
 /// in or leaves out.

@@ -1,14 +1,13 @@
 //! Materials of which no maker is left, or one.
 ghost use Rattle.std.specs.Prelude.{◌≡◌, ◌<◌, ◌≤◌, ◌==◌, ℕ, Bool, true, false, cond, length};
-ghost use Rattle.number_sets.specs.Sets.{has};
-ghost use Rattle.pns_rules.specs.Structure.{is_made, is_used};
+ghost use Rattle.pgraph.specs.number_sets.Sets.{has};
+ghost use Rattle.pgraph.specs.pns_rules.Structure.{is_made, is_used};
 ghost use Rattle.pgraph.specs.Tables.{shape};
 ghost use Rattle.neutral_extension.specs.Candidates.{left};
 ghost use Rattle.neutral_extension.specs.OpenLeaf.{IsTold, IsCounted, is_empty, is_single};
 
 use crate::makers::Makers;
-use pgraph::Graph;
-use unit_sets::{MatSet, UnitSet};
+use pgraph::{Graph, MatSet, UnitSet};
 
 /// The materials of which no maker is left, and those of which one is left.
 #[derive(Clone, Copy, Debug)]

@@ -1,13 +1,12 @@
 //! The units that a node has not left out, and its free units.
 ghost use Rattle.std.specs.Prelude.{◌≡◌, ◌<◌, ℕ, true};
-ghost use Rattle.number_sets.specs.Sets.{has};
-ghost use Rattle.pns_rules.specs.Ends.{remaining};
+ghost use Rattle.pgraph.specs.number_sets.Sets.{has};
+ghost use Rattle.pgraph.specs.pns_rules.Ends.{remaining};
 ghost use Rattle.pgraph.specs.Tables.{shape};
 ghost use Rattle.pgraph.specs.View.{node_of};
 ghost use Rattle.neutral_extension.specs.Tests.{is_open};
 
-use pgraph::Graph;
-use unit_sets::{Node, UnitSet};
+use pgraph::{Graph, Node, UnitSet};
 
 /// The units that are not left out.
 pub fn remaining_units(graph: &Graph, node: &Node) -> UnitSet

@@ -1,8 +1,8 @@
 //! Which step comes next at a node, and what it does.
 ghost use Rattle.std.specs.Prelude.{◌≡◌};
-ghost use Rattle.number_sets.specs.Sets.{has};
-ghost use Rattle.pns_rules.specs.Nodes.{IsPossible, after};
-ghost use Rattle.pns_rules.specs.Ends.{IsSound};
+ghost use Rattle.pgraph.specs.number_sets.Sets.{has};
+ghost use Rattle.pgraph.specs.pns_rules.Nodes.{IsPossible, after};
+ghost use Rattle.pgraph.specs.pns_rules.Ends.{IsSound};
 ghost use Rattle.pgraph.specs.Tables.{shape};
 ghost use Rattle.pgraph.specs.View.{node_of, step_of};
 ghost use Rattle.neutral_extension.specs.Moves.{IsMove, IsListedMove};
@@ -13,8 +13,7 @@ use crate::makers::Makers;
 use crate::materials::{dead_material, starved_material, undecided_material};
 use crate::open_leaf::OpenLeaf;
 use crate::units::{loose_units, raw_unit, rival_unit, sole_step};
-use pgraph::Graph;
-use unit_sets::{Node, Step, UnitSet};
+use pgraph::{Graph, Node, Step, UnitSet};
 
 /// What comes next at a node: a step, or the end.
 #[derive(Clone, Copy, Debug)]

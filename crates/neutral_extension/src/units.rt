@@ -1,9 +1,9 @@
 //! Units that go out or in by a step.
 ghost use Rattle.std.specs.Prelude.{◌≡◌, ◌<◌, ℕ, true, ◌↔◌, MatchOption};
-ghost use Rattle.number_sets.specs.Sets.{has};
-ghost use Rattle.pns_rules.specs.Nodes.{raw, rival, sole, IsPossible};
-ghost use Rattle.pns_rules.specs.Structure.{HasPath};
-ghost use Rattle.pns_rules.specs.Ends.{IsSound, IsFirst, IsNever};
+ghost use Rattle.pgraph.specs.number_sets.Sets.{has};
+ghost use Rattle.pgraph.specs.pns_rules.Nodes.{raw, rival, sole, IsPossible};
+ghost use Rattle.pgraph.specs.pns_rules.Structure.{HasPath};
+ghost use Rattle.pgraph.specs.pns_rules.Ends.{IsSound, IsFirst, IsNever};
 ghost use Rattle.pgraph.specs.Tables.{shape};
 ghost use Rattle.pgraph.specs.View.{node_of};
 ghost use Rattle.neutral_extension.specs.OpenLeaf.{Stands, Follows, AllLead};
@@ -12,8 +12,7 @@ ghost use Rattle.neutral_extension.specs.Tests.{MakesRaw, IsLooseSet, IsLeastSol
 use crate::makers::Makers;
 use crate::open_leaf::OpenLeaf;
 use crate::sets::{free_units, remaining_units};
-use pgraph::Graph;
-use unit_sets::{Node, UnitSet};
+use pgraph::{Graph, Node, UnitSet};
 
 /// The units that make a raw material.
 pub fn raw_makers(graph: &Graph) -> UnitSet

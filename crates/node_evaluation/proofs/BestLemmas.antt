@@ -1,18 +1,17 @@
 -- The cheapest network after the children of a node: the one that was known, or the one that was
 -- found among them.
 use Rattle.std.proofs.Common.{◌≡◌, ◌⊎◌, List, Option, None, inl, inr, sym, subst}
-use Rattle.problem_rules.specs.Problem.{Problem}
-use Rattle.pns_rules.specs.Nodes.{Node}
-use Rattle.tree_rules.specs.Ways.{Way}
-use Rattle.tree_rules.specs.Claim as claims
-use Rattle.tree_rules.specs.Claim.{CostOver, claimed_cost}
+use Rattle.structure_list.specs.problem_rules.Problem.{Problem}
+use Rattle.structure_list.specs.pns_rules.Nodes.{Node}
+use Rattle.search_tree.specs.tree_rules.Ways.{Way}
+use Rattle.search_tree.specs.tree_rules.Claim as claims
+use Rattle.search_tree.specs.tree_rules.Claim.{CostOver, claimed_cost}
 use Rattle.search_tree.specs.Cells.{Cell, place_of, cell_at}
-use Rattle.tree_rules.specs.Lean.{MayUndercut}
-use Rattle.tree_rules.specs.Costs.{HasFallen}
+use Rattle.search_tree.specs.tree_rules.Lean.{MayUndercut}
+use Rattle.search_tree.specs.tree_rules.Costs.{HasFallen}
 use Rattle.search_tree.specs.Values.{IsPositiveCost}
 use Rattle.search_tree.specs.Turns.{AreChildren}
-use Rattle.search_tree.proofs.GrowLemmas.{leaf_fallen}
-use Rattle.search_tree.proofs.OrderLemmas.{may_any}
+use Rattle.search_tree.proofs.Cited.{leaf_fallen, may_any}
 use Rattle.node_evaluation.specs.Looks.{cost_of}
 use Rattle.node_evaluation.specs.Children.{claim_with, IsBest, IsImproved}
 use Rattle.node_evaluation.proofs.ChildLemmas.{cost_is}

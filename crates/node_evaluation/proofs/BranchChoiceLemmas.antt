@@ -2,13 +2,13 @@
 use Rattle.std.proofs.Common.{◌≡◌, ℕ, ◌<◌, nat_lt, ◌==◌, Bool, true, not, ◌&&◌, List, [], ◌∷◌, refl}
 use Rattle.std.proofs.Common.{sym, ap, ◌∙◌, inl, inr, eq-eqb, ltb-true, lt-ltb}
 use Rattle.std.proofs.lemmas.Bool.{or_left, or_right, or_cases, and_parts, and_from, both_ways}
-use Rattle.number_sets.specs.Sets.{has, IsWithin}
-use Rattle.number_sets.proofs.SetLemmas.{has-listed}
-use Rattle.pns_rules.specs.Shape.{Shape, IsProper}
-use Rattle.pns_rules.specs.Structure.{is_needed, is_used}
-use Rattle.pns_rules.specs.Nodes.{Node, is_free, free_makers}
-use Rattle.pns_rules.specs.Ends.{IsUndecided}
-use Rattle.pns_rules.proofs.StructureLemmas.{is_used-some}
+use Rattle.structure_list.specs.number_sets.Sets.{has, IsWithin}
+use Rattle.structure_list.proofs.number_sets.Cited.{has-listed}
+use Rattle.structure_list.specs.pns_rules.Shape.{Shape, IsProper}
+use Rattle.structure_list.specs.pns_rules.Structure.{is_needed, is_used}
+use Rattle.structure_list.specs.pns_rules.Nodes.{Node, is_free, free_makers}
+use Rattle.structure_list.specs.pns_rules.Ends.{IsUndecided}
+use Rattle.structure_list.proofs.pns_rules.Cited.{is_used-some}
 use Rattle.node_evaluation.specs.Choices.{IsDecisive}
 
 pub decisive_from : (g : Shape) (n : Node) (x u : ℕ) → is_needed g n.inside x ≡ true

@@ -8,35 +8,33 @@ use Rattle.std.specs.Prelude.{is_some}
 use Rattle.std.proofs.lemmas.Int.{ints}
 use Rattle.std.proofs.lemmas.List.{map-append, length-map, get_or_append_left, get_or-append-add}
 use Rattle.std.proofs.lemmas.Bool.{cases_eq, or_cases, or_left, or_right}
-use Rattle.number_sets.specs.Options.{IsIn}
-use Rattle.problem_rules.specs.Problem.{Problem}
-use Rattle.problem_rules.specs.Validity.{IsValid}
-use Rattle.pns_rules.specs.Shape.{shape_of}
-use Rattle.pns_rules.specs.Nodes.{Node}
-use Rattle.pns_rules.specs.Nodes as rules
-use Rattle.pns_rules.specs.Ends.{IsSound, IsReduced, IsDead, IsNever}
-use Rattle.pns_rules.proofs.ProperLemmas.{proper_if_valid}
-use Rattle.exact_numbers.specs.declared.number.Mixed.{Mixed}
-use Rattle.tree_rules.specs.Ways.{Way, MayBranch, options_at, child_at, IsDecision}
-use Rattle.tree_rules.specs.Tree.{leaf}
-use Rattle.tree_rules.specs.Claim as claims
-use Rattle.tree_rules.specs.Claim.{CostOver, claimed_cost}
-use Rattle.tree_rules.specs.Leaf.{Leaf, untried, LeafPasses}
-use Rattle.tree_rules.specs.Lean.{MayUndercut, IsNoDearer}
-use Rattle.tree_rules.specs.Known.{AreUnits}
-use Rattle.pgraph.specs.View.{node_of}
-use Rattle.unit_sets.specs.declared.node.Node as places
-use Rattle.search_tree.proofs.ValueLemmas.{ways_are_dearer}
-use Rattle.search_tree.proofs.SoundLemmas.{children_are_sound}
+use Rattle.structure_list.specs.number_sets.Options.{IsIn}
+use Rattle.structure_list.specs.problem_rules.Problem.{Problem}
+use Rattle.structure_list.specs.problem_rules.Validity.{IsValid}
+use Rattle.structure_list.specs.pns_rules.Shape.{shape_of}
+use Rattle.structure_list.specs.pns_rules.Nodes.{Node}
+use Rattle.structure_list.specs.pns_rules.Nodes as rules
+use Rattle.structure_list.specs.pns_rules.Ends.{IsSound, IsReduced, IsDead, IsNever}
+use Rattle.structure_list.proofs.pns_rules.Cited.{proper_if_valid}
+use Rattle.search_tree.specs.exact_numbers.declared.number.Mixed.{Mixed}
+use Rattle.search_tree.specs.tree_rules.Ways.{Way, MayBranch, options_at, child_at, IsDecision}
+use Rattle.search_tree.specs.tree_rules.Tree.{leaf}
+use Rattle.search_tree.specs.tree_rules.Claim as claims
+use Rattle.search_tree.specs.tree_rules.Claim.{CostOver, claimed_cost}
+use Rattle.search_tree.specs.tree_rules.Leaf.{Leaf, untried, LeafPasses}
+use Rattle.search_tree.specs.tree_rules.Lean.{MayUndercut, IsNoDearer}
+use Rattle.search_tree.specs.tree_rules.Known.{AreUnits}
+use Rattle.structure_list.specs.pgraph.View.{node_of}
+use Rattle.structure_list.specs.unit_sets.declared.node.Node as places
+use Rattle.search_tree.proofs.Cited.{ways_are_dearer, children_are_sound, leaf_fallen}
+use Rattle.search_tree.proofs.Cited.{reached_dearer, reached_may_undercut, may_any}
 use Rattle.search_tree.specs.Cells.{Cell, no_cell, place_of, cell_at}
 use Rattle.search_tree.specs.Growth.{EndsOpen}
 use Rattle.search_tree.specs.Fits.{Follows}
 use Rattle.search_tree.specs.declared.growth.Fresh.{Fresh}
-use Rattle.tree_rules.specs.Costs.{HasFallen}
+use Rattle.search_tree.specs.tree_rules.Costs.{HasFallen}
 use Rattle.search_tree.specs.Values.{IsPositiveCost}
 use Rattle.search_tree.specs.Turns.{IsFreshChild}
-use Rattle.search_tree.proofs.GrowLemmas.{leaf_fallen}
-use Rattle.search_tree.proofs.OrderLemmas.{reached_dearer, reached_may_undercut, may_any}
 use Rattle.node_evaluation.specs.declared.evaluator.PastStop.{PastStop}
 use Rattle.node_evaluation.specs.declared.looks.Ready.{Ready}
 use Rattle.node_evaluation.specs.declared.looks.Looked.{Looked}

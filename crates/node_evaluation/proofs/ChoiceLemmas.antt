@@ -1,15 +1,15 @@
 -- What a choice decides, and how many children it gives.
 use Rattle.std.proofs.Common.{◌≡◌, ℕ, length, refl, inl, inr, arith}
-use Rattle.problem_rules.specs.Problem.{Problem}
-use Rattle.problem_rules.specs.Validity.{IsValid}
-use Rattle.pns_rules.specs.Shape.{Shape, shape_of}
-use Rattle.pns_rules.specs.Nodes.{Node}
-use Rattle.pns_rules.specs.Ends.{IsUndecided}
-use Rattle.pns_rules.proofs.ProperLemmas.{proper_if_valid}
-use Rattle.tree_rules.specs.Ways.{width, MayBranch, IsDecision, options_at}
-use Rattle.tree_rules.specs.Tree.{branch}
-use Rattle.tree_rules.specs.Stops.{IsNextCount}
-use Rattle.tree_rules.specs.Known.{KnowsEnd}
+use Rattle.structure_list.specs.problem_rules.Problem.{Problem}
+use Rattle.structure_list.specs.problem_rules.Validity.{IsValid}
+use Rattle.structure_list.specs.pns_rules.Shape.{Shape, shape_of}
+use Rattle.structure_list.specs.pns_rules.Nodes.{Node}
+use Rattle.structure_list.specs.pns_rules.Ends.{IsUndecided}
+use Rattle.structure_list.proofs.pns_rules.Cited.{proper_if_valid}
+use Rattle.search_tree.specs.tree_rules.Ways.{width, MayBranch, IsDecision, options_at}
+use Rattle.search_tree.specs.tree_rules.Tree.{branch}
+use Rattle.search_tree.specs.tree_rules.Stops.{IsNextCount}
+use Rattle.search_tree.specs.tree_rules.Known.{KnowsEnd}
 use Rattle.node_evaluation.specs.declared.choice.Choice.{Choice}
 use Rattle.node_evaluation.specs.declared.choice.Choice.TheVariants as choices
 use Rattle.node_evaluation.specs.Choices.{IsChoice, way_of, option_count}

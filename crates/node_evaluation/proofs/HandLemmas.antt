@@ -5,31 +5,29 @@ use Rattle.std.proofs.Common.{inl, inr, true≢false}
 use Rattle.std.specs.Prelude.{is_some, IfSome}
 use Rattle.std.proofs.lemmas.Bool.{or_left}
 use Rattle.std.proofs.lemmas.Int.{ints}
-use Rattle.integer_laws.proofs.Order.{mul-le_right}
-use Rattle.flow_rules.specs.Net.{net_of}
-use Rattle.flow_rules.specs.Flows.{cost}
-use Rattle.flow_rules.specs.Relaxed.{relaxed_cost}
-use Rattle.flow_rules.proofs.DualityLemmas.{flows_are_relaxed, relaxed_costs_less}
-use Rattle.number_sets.specs.Sets.{has}
-use Rattle.number_sets.specs.Options.{IsIn}
-use Rattle.problem_rules.specs.Problem.{Problem}
-use Rattle.problem_rules.specs.Validity.{IsValid}
-use Rattle.pns_rules.specs.Shape.{shape_of}
-use Rattle.pns_rules.specs.Structure.{IsBetween}
-use Rattle.pns_rules.specs.Nodes.{Node}
-use Rattle.pns_rules.specs.Ends.{IsSound, IsReduced, IsDead, IsNever}
-use Rattle.pns_rules.proofs.ProperLemmas.{proper_if_valid}
-use Rattle.pns_rules.proofs.StepLemmas.{dead_are_empty}
-use Rattle.tree_rules.specs.Ways.{Way, MayBranch, options_at, child_at, IsDecision}
-use Rattle.tree_rules.specs.Claim as claims
-use Rattle.tree_rules.specs.Claim.{CostOver, claimed_cost, size_in}
-use Rattle.tree_rules.specs.Lean.{HasCheaper, IsNoDearer}
+use Rattle.structure_list.proofs.integer_laws.Cited.{mul-le_right}
+use Rattle.structure_list.specs.flow_rules.Net.{net_of}
+use Rattle.structure_list.specs.flow_rules.Flows.{cost}
+use Rattle.structure_list.specs.flow_rules.Relaxed.{relaxed_cost}
+use Rattle.structure_list.proofs.flow_rules.Cited.{flows_are_relaxed, relaxed_costs_less}
+use Rattle.structure_list.specs.number_sets.Sets.{has}
+use Rattle.structure_list.specs.number_sets.Options.{IsIn}
+use Rattle.structure_list.specs.problem_rules.Problem.{Problem}
+use Rattle.structure_list.specs.problem_rules.Validity.{IsValid}
+use Rattle.structure_list.specs.pns_rules.Shape.{shape_of}
+use Rattle.structure_list.specs.pns_rules.Structure.{IsBetween}
+use Rattle.structure_list.specs.pns_rules.Nodes.{Node}
+use Rattle.structure_list.specs.pns_rules.Ends.{IsSound, IsReduced, IsDead, IsNever}
+use Rattle.structure_list.proofs.pns_rules.Cited.{proper_if_valid, dead_are_empty}
+use Rattle.search_tree.specs.tree_rules.Ways.{Way, MayBranch, options_at, child_at, IsDecision}
+use Rattle.search_tree.specs.tree_rules.Claim as claims
+use Rattle.search_tree.specs.tree_rules.Claim.{CostOver, claimed_cost, size_in}
+use Rattle.search_tree.specs.tree_rules.Lean.{HasCheaper, IsNoDearer}
 use Rattle.search_tree.specs.Cells.{Cell, place_of, cell_at}
 use Rattle.search_tree.specs.declared.growth.Fresh.{Fresh}
-use Rattle.tree_rules.specs.Costs.{HasFallen}
+use Rattle.search_tree.specs.tree_rules.Costs.{HasFallen}
 use Rattle.search_tree.specs.Turns.{IsFreshChild}
-use Rattle.search_tree.proofs.GrowLemmas.{leaf_fallen}
-use Rattle.search_tree.proofs.OrderLemmas.{reached_dearer, reached_may_undercut}
+use Rattle.search_tree.proofs.Cited.{leaf_fallen, reached_dearer, reached_may_undercut}
 use Rattle.node_evaluation.specs.declared.looks.Ready.{Ready}
 use Rattle.node_evaluation.specs.declared.looks.Looked.{Looked}
 use Rattle.node_evaluation.specs.declared.children.StoppedAt.{StoppedAt}

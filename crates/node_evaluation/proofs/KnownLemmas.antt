@@ -1,16 +1,17 @@
 -- What a look adds to a tree has numbers that the problem knows.
 use Rattle.std.proofs.Common.{ℕ, List, [], ◌∷◌, length}
-use Rattle.number_sets.specs.Sets.{Avoids}
-use Rattle.number_sets.specs.Options.{IsIn}
-use Rattle.number_sets.proofs.SetLemmas.{below_from}
-use Rattle.problem_rules.specs.Each.{Each}
-use Rattle.problem_rules.specs.Problem.{Problem}
-use Rattle.pns_rules.specs.Shape.{IsProper, shape_of}
-use Rattle.pns_rules.specs.Nodes.{Node, Step, raw, rival, starve, loose, sole, IsPossible, after}
-use Rattle.pns_rules.specs.Ends.{IsDead, Leads}
-use Rattle.tree_rules.specs.Known.{AreUnits, IsMaterial, KnowsStep}
-use Rattle.tree_rules.specs.Ways.{Way, MayBranch, options_at}
-use Rattle.tree_laws.proofs.WayLemmas.{choices}
+use Rattle.structure_list.specs.number_sets.Sets.{Avoids}
+use Rattle.structure_list.specs.number_sets.Options.{IsIn}
+use Rattle.structure_list.proofs.number_sets.Cited.{below_from}
+use Rattle.structure_list.specs.problem_rules.Each.{Each}
+use Rattle.structure_list.specs.problem_rules.Problem.{Problem}
+use Rattle.structure_list.specs.pns_rules.Shape.{IsProper, shape_of}
+use Rattle.structure_list.specs.pns_rules.Nodes.{Node, Step, raw, rival, starve, loose, sole}
+use Rattle.structure_list.specs.pns_rules.Nodes.{IsPossible, after}
+use Rattle.structure_list.specs.pns_rules.Ends.{IsDead, Leads}
+use Rattle.search_tree.specs.tree_rules.Known.{AreUnits, IsMaterial, KnowsStep}
+use Rattle.search_tree.specs.tree_rules.Ways.{Way, MayBranch, options_at}
+use Rattle.search_tree.proofs.tree_laws.Cited.{choices}
 use Rattle.node_evaluation.proofs.BranchChoiceLemmas.{needed_known}
 use Rattle.neutral_extension.specs.Moves.{HasSet}
 

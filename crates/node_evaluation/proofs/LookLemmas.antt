@@ -3,28 +3,27 @@ use Rattle.std.proofs.Common.{◌≡◌, ℕ, true, false, List, [], ◌∷◌, 
 use Rattle.std.proofs.Common.{Some, None, refl, sym, ap, ◌∙◌, subst, arith}
 use Rattle.std.proofs.lemmas.Int.{ints}
 use Rattle.std.specs.Prelude.{is_some}
-use Rattle.integer_laws.specs.Range.{InRange, AllInRange}
-use Rattle.problem_rules.specs.Each.{Each}
-use Rattle.problem_rules.specs.Problem.{Problem}
-use Rattle.pns_rules.specs.Shape.{Shape, IsProper, shape_of}
-use Rattle.tree_rules.specs.Known.{AreUnits, KnowsStep, KnowsLeaf, KnowsEnd}
-use Rattle.pns_rules.specs.Nodes as rules
-use Rattle.pns_rules.specs.Nodes.{after}
-use Rattle.pns_rules.specs.Ends.{IsSound, IsReduced, IsDecided, Leads, Stop}
-use Rattle.pgraph.specs.View.{node_of}
-use Rattle.unit_sets.specs.declared.node.Node.{Node}
-use Rattle.tree_rules.specs.Tree.{End, leaf, StepsPass, after_all}
-use Rattle.tree_rules.specs.Claim.{Network, CostOver}
-use Rattle.tree_rules.specs.Leaf.{Leaf, bounded, untried, IsUntried, LeafPasses}
+use Rattle.structure_list.specs.integer_laws.Range.{InRange, AllInRange}
+use Rattle.structure_list.specs.problem_rules.Each.{Each}
+use Rattle.structure_list.specs.problem_rules.Problem.{Problem}
+use Rattle.structure_list.specs.pns_rules.Shape.{Shape, IsProper, shape_of}
+use Rattle.search_tree.specs.tree_rules.Known.{AreUnits, KnowsStep, KnowsLeaf, KnowsEnd}
+use Rattle.structure_list.specs.pns_rules.Nodes as rules
+use Rattle.structure_list.specs.pns_rules.Nodes.{after}
+use Rattle.structure_list.specs.pns_rules.Ends.{IsSound, IsReduced, IsDecided, Leads, Stop}
+use Rattle.structure_list.specs.pgraph.View.{node_of}
+use Rattle.structure_list.specs.unit_sets.declared.node.Node.{Node}
+use Rattle.search_tree.specs.tree_rules.Tree.{End, leaf, StepsPass, after_all}
+use Rattle.search_tree.specs.tree_rules.Claim.{Network, CostOver}
+use Rattle.search_tree.specs.tree_rules.Leaf.{Leaf, bounded, untried, IsUntried, LeafPasses}
 use Rattle.neutral_extension.specs.Moves.{Extends}
 use Rattle.search_tree.specs.Cells.{Cell, place_of}
 use Rattle.search_tree.specs.Growth.{as_shut}
 use Rattle.search_tree.specs.Values.{IsPositive, IsUnder, IsValueOf}
-use Rattle.tree_rules.specs.Costs.{IsNoMore}
-use Rattle.search_tree.proofs.GrowLemmas.{leaf_fallen}
-use Rattle.search_tree.proofs.OrderLemmas.{under_reached, reached_more}
-use Rattle.exact_numbers.specs.declared.number.Mixed.{Mixed}
-use Rattle.exact_numbers.specs.MixedOrderLaws.{denominator_positive}
+use Rattle.search_tree.specs.tree_rules.Costs.{IsNoMore}
+use Rattle.search_tree.proofs.Cited.{leaf_fallen, under_reached, reached_more}
+use Rattle.search_tree.specs.exact_numbers.declared.number.Mixed.{Mixed}
+use Rattle.search_tree.specs.exact_numbers.MixedOrderLaws.{denominator_positive}
 use Rattle.node_evaluation.specs.declared.choice.Choice.{Choice}
 use Rattle.node_evaluation.specs.Choices.{IsChoice}
 use Rattle.node_evaluation.specs.declared.evaluator.Bound.{Bound}

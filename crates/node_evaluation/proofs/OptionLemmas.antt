@@ -1,12 +1,12 @@
 -- The units that a choice decides, and the children that its options give.
 use Rattle.std.proofs.Common.{◌≡◌, ℕ, ◌≤◌, Bool, not, ◌&&◌, ◌||◌, List, ap, ◌∙◌, arith}
-use Rattle.number_sets.specs.Sets.{has, union, minus}
-use Rattle.number_sets.proofs.SetLemmas.{has-union, has-minus}
-use Rattle.pns_rules.specs.Shape.{Shape, IsProper}
-use Rattle.pns_rules.specs.Nodes as rules
-use Rattle.pgraph.specs.View.{node_of}
-use Rattle.unit_sets.specs.declared.node.Node.{Node}
-use Rattle.tree_rules.specs.Ways.{Way, decides, child_at}
+use Rattle.structure_list.specs.number_sets.Sets.{has, union, minus}
+use Rattle.structure_list.proofs.number_sets.Cited.{has-union, has-minus}
+use Rattle.structure_list.specs.pns_rules.Shape.{Shape, IsProper}
+use Rattle.structure_list.specs.pns_rules.Nodes as rules
+use Rattle.structure_list.specs.pgraph.View.{node_of}
+use Rattle.structure_list.specs.unit_sets.declared.node.Node.{Node}
+use Rattle.search_tree.specs.tree_rules.Ways.{Way, decides, child_at}
 use Rattle.node_evaluation.specs.declared.choice.Choice.{Choice}
 use Rattle.node_evaluation.specs.declared.choice.Choice.TheVariants as choices
 use Rattle.node_evaluation.specs.Choices.{IsChoice}

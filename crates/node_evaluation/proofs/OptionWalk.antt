@@ -4,10 +4,11 @@ use Rattle.std.proofs.Common.{sym, ap, ap₂, ◌∙◌, subst, arith, append_as
 use Rattle.std.proofs.Common.{inr}
 use Rattle.std.proofs.lemmas.List.{append-nil}
 use Rattle.std.specs.Prelude.{IfSome, IfNone}
-use Rattle.number_sets.specs.Sets.{has, IsSet, Avoids}
-use Rattle.number_sets.specs.Options.{IsBetween, IsFirstOption, IsNextOption, IsLastOption}
-use Rattle.number_sets.specs.Options.{all_options, IsIn}
-use Rattle.number_sets.proofs.OptionLists as lists
+use Rattle.structure_list.specs.number_sets.Sets.{has, IsSet, Avoids}
+use Rattle.structure_list.specs.number_sets.Options.{IsBetween, IsFirstOption, IsNextOption}
+use Rattle.structure_list.specs.number_sets.Options.{IsLastOption}
+use Rattle.structure_list.specs.number_sets.Options.{all_options, IsIn}
+use Rattle.structure_list.proofs.number_sets.Cited as lists
 
 abbrev pub head_of : List (List ℕ) → Option (List ℕ)
 head_of [] = None

@@ -3,10 +3,11 @@ use Rattle.std.proofs.Common.{◌≡◌, Bool, true, false, cond, List, [], ◌�
 use Rattle.std.proofs.Common.{None, sym, ap, ◌∙◌, subst, true≢false}
 use Rattle.std.specs.Prelude.{is_some}
 use Rattle.std.proofs.lemmas.List.{map-append}
-use Rattle.problem_rules.specs.Problem.{Problem}
-use Rattle.tree_rules.specs.Tree.{End, leaf}
-use Rattle.tree_rules.specs.Claim as claims
-use Rattle.tree_rules.specs.Leaf.{Leaf, dead, clash, refuted, bounded, charged, untried, LeafPasses}
+use Rattle.structure_list.specs.problem_rules.Problem.{Problem}
+use Rattle.search_tree.specs.tree_rules.Tree.{End, leaf}
+use Rattle.search_tree.specs.tree_rules.Claim as claims
+use Rattle.search_tree.specs.tree_rules.Leaf.{Leaf, dead, clash, refuted, bounded, charged, untried}
+use Rattle.search_tree.specs.tree_rules.Leaf.{LeafPasses}
 use Rattle.search_tree.specs.Cells.{Cell, place_of}
 use Rattle.search_tree.specs.declared.growth.Fresh.{Fresh}
 use Rattle.node_evaluation.specs.declared.looks.Looked.{Looked}

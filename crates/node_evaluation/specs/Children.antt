@@ -1,22 +1,22 @@
 -- What a search sees of all children of a node, and the cheapest network that it knows then.
 use Rattle.std.specs.Prelude.{◌≡◌, ℕ, ℤ, ◌<◌, Bool, true, false, List, [], ◌∷◌, length, map, Option}
 use Rattle.std.specs.Prelude.{Some, None, is_some}
-use Rattle.problem_rules.specs.Problem.{Problem}
-use Rattle.pns_rules.specs.Shape.{Shape, shape_of}
-use Rattle.pns_rules.specs.Nodes.{Node}
-use Rattle.pns_rules.specs.Ends.{IsSound}
-use Rattle.exact_numbers.specs.declared.number.Mixed.{Mixed}
-use Rattle.tree_rules.specs.Ways.{Way}
-use Rattle.tree_rules.specs.Tree.{leaf}
-use Rattle.tree_rules.specs.Claim as claims
-use Rattle.tree_rules.specs.Claim.{CostOver, claimed_cost, ClaimPasses}
-use Rattle.tree_rules.specs.Leaf.{Leaf, bounded, LeafPasses, IsBounded}
-use Rattle.tree_rules.specs.Lean.{MayUndercut}
+use Rattle.structure_list.specs.problem_rules.Problem.{Problem}
+use Rattle.structure_list.specs.pns_rules.Shape.{Shape, shape_of}
+use Rattle.structure_list.specs.pns_rules.Nodes.{Node}
+use Rattle.structure_list.specs.pns_rules.Ends.{IsSound}
+use Rattle.search_tree.specs.exact_numbers.declared.number.Mixed.{Mixed}
+use Rattle.search_tree.specs.tree_rules.Ways.{Way}
+use Rattle.search_tree.specs.tree_rules.Tree.{leaf}
+use Rattle.search_tree.specs.tree_rules.Claim as claims
+use Rattle.search_tree.specs.tree_rules.Claim.{CostOver, claimed_cost, ClaimPasses}
+use Rattle.search_tree.specs.tree_rules.Leaf.{Leaf, bounded, LeafPasses, IsBounded}
+use Rattle.search_tree.specs.tree_rules.Lean.{MayUndercut}
 use Rattle.search_tree.specs.Cells.{Cell, place_of, cell_at}
 use Rattle.search_tree.specs.Growth.{EndsOpen}
 use Rattle.search_tree.specs.Fits.{Follows}
 use Rattle.search_tree.specs.declared.growth.Fresh.{Fresh}
-use Rattle.tree_rules.specs.Costs.{HasFallen}
+use Rattle.search_tree.specs.tree_rules.Costs.{HasFallen}
 use Rattle.search_tree.specs.Values.{IsPositiveCost}
 use Rattle.search_tree.specs.Turns.{IsFreshChild, AreChildren}
 use Rattle.node_evaluation.specs.declared.choice.Choice.{Choice}

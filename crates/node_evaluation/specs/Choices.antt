@@ -1,11 +1,12 @@
 -- How a node is branched so that there is something to decide: at a needed material with three
 -- options, or at a unit that goes in or goes out and makes a needed material.
 use Rattle.std.specs.Prelude.{◌≡◌, ℕ, ◌<◌, true, length}
-use Rattle.pns_rules.specs.Shape.{Shape}
-use Rattle.pns_rules.specs.Structure.{is_needed}
-use Rattle.pns_rules.specs.Nodes.{Node, is_free, options}
-use Rattle.pns_rules.specs.Ends.{IsUndecided}
-use Rattle.tree_rules.specs.Ways.{Way, at_material, either, MayBranch, IsDecision, options_at}
+use Rattle.structure_list.specs.pns_rules.Shape.{Shape}
+use Rattle.structure_list.specs.pns_rules.Structure.{is_needed}
+use Rattle.structure_list.specs.pns_rules.Nodes.{Node, is_free, options}
+use Rattle.structure_list.specs.pns_rules.Ends.{IsUndecided}
+use Rattle.search_tree.specs.tree_rules.Ways.{Way, at_material, either, MayBranch, IsDecision}
+use Rattle.search_tree.specs.tree_rules.Ways.{options_at}
 use Rattle.node_evaluation.specs.declared.choice.Choice.{Choice}
 use Rattle.node_evaluation.specs.declared.choice.Choice.TheVariants as choices
 

@@ -2,20 +2,20 @@
 -- costs between which it lies, with multipliers that prove a lower bound of it, a network of that
 -- cost, multipliers that refute it, or the place at which a number overflows.
 use Rattle.std.specs.Prelude.{◌≡◌, ℕ, pos, ◌≤ℤ◌, Bool, true, false, List, Option, Some, None}
-use Rattle.number_sets.specs.Sets.{has}
-use Rattle.problem_rules.specs.Problem.{Problem}
-use Rattle.pns_rules.specs.Nodes.{Node}
-use Rattle.exact_numbers.specs.declared.number.Mixed.{Mixed}
-use Rattle.exact_numbers.specs.Number.{numerator, denominator}
-use Rattle.flow_rules.specs.declared.place.Column.{Column}
-use Rattle.flow_rules.specs.declared.place.Place.{Place}
-use Rattle.tree_rules.specs.Claim.{Network, CostOver, IsFeasible}
-use Rattle.flow_rules.specs.ChargeLeaf.{Handed}
-use Rattle.tree_rules.specs.Leaf.{IsRefuted, IsBounded, IsCharged}
-use Rattle.tree_rules.specs.Known.{KnowsCharge}
-use Rattle.tree_rules.specs.Lean.{MayUndercut, HasCheaper}
+use Rattle.structure_list.specs.number_sets.Sets.{has}
+use Rattle.structure_list.specs.problem_rules.Problem.{Problem}
+use Rattle.structure_list.specs.pns_rules.Nodes.{Node}
+use Rattle.search_tree.specs.exact_numbers.declared.number.Mixed.{Mixed}
+use Rattle.search_tree.specs.exact_numbers.Number.{numerator, denominator}
+use Rattle.structure_list.specs.flow_rules.declared.place.Column.{Column}
+use Rattle.structure_list.specs.flow_rules.declared.place.Place.{Place}
+use Rattle.search_tree.specs.tree_rules.Claim.{Network, CostOver, IsFeasible}
+use Rattle.structure_list.specs.flow_rules.ChargeLeaf.{Handed}
+use Rattle.search_tree.specs.tree_rules.Leaf.{IsRefuted, IsBounded, IsCharged}
+use Rattle.search_tree.specs.tree_rules.Known.{KnowsCharge}
+use Rattle.search_tree.specs.tree_rules.Lean.{MayUndercut, HasCheaper}
 use Rattle.search_tree.specs.Values.{IsValueOf, IsUnder}
-use Rattle.tree_rules.specs.Costs.{IsNoMore}
+use Rattle.search_tree.specs.tree_rules.Costs.{IsNoMore}
 use Rattle.node_evaluation.specs.declared.evaluator.Interval.{Interval}
 use Rattle.node_evaluation.specs.declared.evaluator.LowerBound.{LowerBound}
 use Rattle.node_evaluation.specs.declared.evaluator.FirstLook.{FirstLook}

@@ -1,17 +1,18 @@
 -- What a search sees at a node: the steps that are possible, the node that they leave, and its end.
 use Rattle.std.specs.Prelude.{◌≡◌, ℕ, ◌<◌, pos, ◌≤ℤ◌, Bool, true, false, ◌||◌, List, [], ◌∷◌}
 use Rattle.std.specs.Prelude.{Option, Some, None, is_some}
-use Rattle.problem_rules.specs.Problem.{Problem}
-use Rattle.pns_rules.specs.Shape.{shape_of}
-use Rattle.pns_rules.specs.Nodes.{Node, is_free}
-use Rattle.pns_rules.specs.Ends.{IsSound, IsReduced, IsDead, IsNever}
-use Rattle.exact_numbers.specs.declared.number.Mixed.{Mixed}
-use Rattle.tree_rules.specs.Tree.{End, branch, leaf}
-use Rattle.tree_rules.specs.Claim.{Network, CostOver, IsFeasible}
-use Rattle.tree_rules.specs.Leaf.{Leaf, dead, clash, refuted, bounded, charged, untried, IsUntried}
-use Rattle.tree_rules.specs.Leaf.{LeafPasses, IsRefuted}
-use Rattle.tree_rules.specs.Lean.{HasCheaper}
-use Rattle.tree_rules.specs.Known.{KnowsNode, KnowsEnd}
+use Rattle.structure_list.specs.problem_rules.Problem.{Problem}
+use Rattle.structure_list.specs.pns_rules.Shape.{shape_of}
+use Rattle.structure_list.specs.pns_rules.Nodes.{Node, is_free}
+use Rattle.structure_list.specs.pns_rules.Ends.{IsSound, IsReduced, IsDead, IsNever}
+use Rattle.search_tree.specs.exact_numbers.declared.number.Mixed.{Mixed}
+use Rattle.search_tree.specs.tree_rules.Tree.{End, branch, leaf}
+use Rattle.search_tree.specs.tree_rules.Claim.{Network, CostOver, IsFeasible}
+use Rattle.search_tree.specs.tree_rules.Leaf.{Leaf, dead, clash, refuted, bounded, charged, untried}
+use Rattle.search_tree.specs.tree_rules.Leaf.{IsUntried}
+use Rattle.search_tree.specs.tree_rules.Leaf.{LeafPasses, IsRefuted}
+use Rattle.search_tree.specs.tree_rules.Lean.{HasCheaper}
+use Rattle.search_tree.specs.tree_rules.Known.{KnowsNode, KnowsEnd}
 use Rattle.search_tree.specs.Cells.{Cell, place_of}
 use Rattle.search_tree.specs.Fits.{Follows}
 use Rattle.node_evaluation.specs.Choices.{IsChoice}

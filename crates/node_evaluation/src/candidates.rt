@@ -1,15 +1,14 @@
 //! The free maker of a needed material that has the greatest score.
 ghost use Rattle.std.specs.Prelude.{◌≡◌, ◌<◌, ◌⊎◌, ℕ, true};
-ghost use Rattle.number_sets.specs.Sets.{has};
-ghost use Rattle.pns_rules.specs.Structure.{is_needed};
-ghost use Rattle.pns_rules.specs.Ends.{IsUndecided};
-ghost use Rattle.pgraph.specs.Tables.{shape};
-ghost use Rattle.pgraph.specs.View.{node_of};
+ghost use Rattle.structure_list.specs.number_sets.Sets.{has};
+ghost use Rattle.structure_list.specs.pns_rules.Structure.{is_needed};
+ghost use Rattle.structure_list.specs.pns_rules.Ends.{IsUndecided};
+ghost use Rattle.structure_list.specs.pgraph.Tables.{shape};
+ghost use Rattle.structure_list.specs.pgraph.View.{node_of};
 ghost use Rattle.node_evaluation.specs.Choices.{IsDecisive};
 
 use crate::dues::Dues;
-use pgraph::Graph;
-use unit_sets::{MatSet, Node};
+use structure_list::{Graph, MatSet, Node};
 
 /// A unit and its score.
 #[derive(Clone, Copy)]

@@ -1,32 +1,30 @@
 //! A look at all children of a node.
 ghost use Rattle.std.specs.Prelude.{◌≡◌, ◌⊎◌, ◌↔◌, ◌++◌, ◌∷◌, [], ◌||◌, cond, IsTrue, true, false};
 ghost use Rattle.std.specs.Prelude.{Some, None, is_some, IfOk, IfSome, OnOk, length};
-ghost use Rattle.pns_rules.specs.Shape.{shape_of};
-ghost use Rattle.number_sets.specs.Options.{IsIn};
-ghost use Rattle.pns_rules.specs.Ends.{IsSound, IsReduced};
-ghost use Rattle.tree_rules.specs.Ways.{options_at};
+ghost use Rattle.structure_list.specs.pns_rules.Shape.{shape_of};
+ghost use Rattle.structure_list.specs.number_sets.Options.{IsIn};
+ghost use Rattle.structure_list.specs.pns_rules.Ends.{IsSound, IsReduced};
+ghost use Rattle.search_tree.specs.tree_rules.Ways.{options_at};
 ghost use Rattle.node_evaluation.specs.Choices.{IsChoice, way_of};
-ghost use Rattle.pgraph.specs.View.{node_of};
-ghost use Rattle.tree_rules.specs.Costs.{IsNoMore, HasFallen};
+ghost use Rattle.structure_list.specs.pgraph.View.{node_of};
+ghost use Rattle.search_tree.specs.tree_rules.Costs.{IsNoMore, HasFallen};
 ghost use Rattle.search_tree.specs.Cells.{place_of};
 ghost use Rattle.node_evaluation.specs.Evaluated.{cost_in, IsAtHand};
 ghost use Rattle.node_evaluation.specs.Looks.{cost_of};
 ghost use Rattle.node_evaluation.specs.Children.{IsChild, IsSameBut, AreLooked, AreSeen};
 ghost use Rattle.node_evaluation.specs.Children.{AreSolvedBy, cells_of, options_in, stop_after};
-ghost use Rattle.tree_rules.specs.Known.{AreUnits};
+ghost use Rattle.search_tree.specs.tree_rules.Known.{AreUnits};
 ghost use Rattle.neutral_extension.specs.Candidates.{AreMakersOf};
 
+use crate::Choice;
 use crate::costs::is_no_more;
 use crate::evaluator::{Evaluator, PastStop};
 use crate::looks::{Looked, Ready, look, nothing, open_cell};
 use crate::options::{child_of, options_of};
 use crate::workspace::Workspace;
-use crate::Choice;
-use branch_tree::{Network, Steps};
-use pgraph::Site;
-use search_tree::Fresh;
+use search_tree::{Fresh, Network, Steps};
 use std::alloc::{AllocError, Global};
-use unit_sets::{Node, UnitSet};
+use structure_list::{Node, Site, UnitSet};
 
 /// A child by its number among the children, and why it stops the search.
 #[derive(Drop)]

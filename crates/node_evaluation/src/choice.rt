@@ -1,18 +1,17 @@
 //! The rule by which an open leaf is branched.
 ghost use Rattle.std.specs.Prelude.{◌≡◌, ◌<◌, ℕ, true, length, IfSome, IsTrue};
-ghost use Rattle.number_sets.specs.Sets.{has};
-ghost use Rattle.pns_rules.specs.Shape.{shape_of};
-ghost use Rattle.pns_rules.specs.Structure.{is_needed};
-ghost use Rattle.pns_rules.specs.Nodes.{options};
-ghost use Rattle.pns_rules.specs.Ends.{IsReduced, IsSound, IsUndecided};
-ghost use Rattle.pgraph.specs.Tables.{shape};
-ghost use Rattle.pgraph.specs.View.{node_of};
+ghost use Rattle.structure_list.specs.number_sets.Sets.{has};
+ghost use Rattle.structure_list.specs.pns_rules.Shape.{shape_of};
+ghost use Rattle.structure_list.specs.pns_rules.Structure.{is_needed};
+ghost use Rattle.structure_list.specs.pns_rules.Nodes.{options};
+ghost use Rattle.structure_list.specs.pns_rules.Ends.{IsReduced, IsSound, IsUndecided};
+ghost use Rattle.structure_list.specs.pgraph.Tables.{shape};
+ghost use Rattle.structure_list.specs.pgraph.View.{node_of};
 ghost use Rattle.node_evaluation.specs.Choices.{IsChoice, option_count};
 
 use crate::candidates::best_unit;
 use crate::dues::Dues;
-use pgraph::{Graph, Site};
-use unit_sets::{MatSet, Node, UnitSet};
+use structure_list::{Graph, MatSet, Node, Site, UnitSet};
 
 /// How an open leaf is branched: at a material with three options, or in two at one unit.
 #[derive(Clone, Copy, Debug)]

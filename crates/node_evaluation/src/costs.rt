@@ -2,7 +2,7 @@
 ghost use Rattle.std.specs.Prelude.{◌≡◌, ◌↔◌, ◌≤ℤ◌, ◌*ℤ◌, pos, IsTrue};
 ghost use Rattle.std.specs.Ordering.{int_cmp};
 
-use exact_numbers::compare_fractions;
+use search_tree::compare_fractions;
 use std::cmp::Ordering;
 
 /// Compares a / b with c / d, whatever the size of the cross products.

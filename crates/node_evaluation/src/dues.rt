@@ -1,13 +1,11 @@
 //! What units and materials still owe at the last basis of a node. It guides a search, and nothing
 //! is promised of it. The sums stay far inside their range, and would be clamped if they did not.
 ghost use Rattle.std.specs.Prelude.{◌≡◌, ◌<◌, ℕ, length};
-ghost use Rattle.pns_rules.specs.Shape.{shape_of};
-ghost use Rattle.pgraph.specs.Tables.{shape};
+ghost use Rattle.structure_list.specs.pns_rules.Shape.{shape_of};
+ghost use Rattle.structure_list.specs.pgraph.Tables.{shape};
 
 use crate::paths::leading;
-use pgraph::Graph;
-use pns_problem::{OperatingUnit, Problem};
-use unit_sets::{Node, UnitSet};
+use structure_list::{Graph, Node, OperatingUnit, Problem, UnitSet};
 
 /// What is known of a unit: its fixed cost, what it owes of it, and its size, all 0 if it is left
 /// out.

@@ -1,19 +1,15 @@
 //! How a search finds the value of a node.
 ghost use Rattle.std.specs.Prelude.{◌≡◌, true, false, IfOk, IfSome, OnOk};
-ghost use Rattle.pns_rules.specs.Shape.{shape_of};
-ghost use Rattle.pns_rules.specs.Ends.{IsSound, IsReduced, IsDecided};
-ghost use Rattle.problem_rules.specs.Problem.{Problem};
-ghost use Rattle.pgraph.specs.View.{node_of};
+ghost use Rattle.structure_list.specs.pns_rules.Shape.{shape_of};
+ghost use Rattle.structure_list.specs.pns_rules.Ends.{IsSound, IsReduced, IsDecided};
+ghost use Rattle.structure_list.specs.problem_rules.Problem.{Problem};
+ghost use Rattle.structure_list.specs.pgraph.View.{node_of};
 ghost use Rattle.node_evaluation.specs.Evaluated.{PastPlaces, IsFirstLook, IsEvaluated, IsWorth};
 ghost use Rattle.node_evaluation.specs.Evaluated.{IsProof, IsAtHand, IsChargeOf, cost_in};
 
-use branch_tree::{Columns, Multipliers, Network, Scaled};
-use pgraph::Covers;
-use flow_rules::Place;
-use exact_numbers::Mixed;
-use pgraph::Site;
+use search_tree::{Columns, Mixed, Multipliers, Network, Scaled};
 use std::alloc::{AllocError, Global};
-use unit_sets::Node;
+use structure_list::{Covers, Node, Place, Site};
 
 /// The columns outside a basis, and the place at which a number overflows.
 #[derive(Drop)]

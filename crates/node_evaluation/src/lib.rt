@@ -41,4 +41,10 @@ pub use evaluator::{
 };
 pub use laws::choices_decide;
 pub use looks::{Looked, Ready, Settling, Worth, look, open_cell, settle};
+pub use search_tree::{
+    Cell, Claim, Columns, End, Fresh, Mixed, Multipliers, Network, Pool, Scaled, Shut, Steps, Tree,
+    accepted_has_flows, accepted_is_optimal, branch, copy_multipliers, copy_scaled,
+    nodes_in_preorder, preorder_is_tree,
+};
+pub use structure_list::{Node, Place, Site, UnitSet, maximal};
 pub use workspace::Workspace;

@@ -1,26 +1,24 @@
 //! A look at a node.
 ghost use Rattle.std.specs.Prelude.{◌≡◌, true, false, Some, None, IfOk};
-ghost use Rattle.pns_rules.specs.Shape.{shape_of};
-ghost use Rattle.pns_rules.specs.Ends.{IsSound, IsReduced, IsDecided, IsUndecided, IsFirst};
-ghost use Rattle.pgraph.specs.View.{node_of};
+ghost use Rattle.structure_list.specs.pns_rules.Shape.{shape_of};
+ghost use Rattle.structure_list.specs.pns_rules.Ends.{IsSound, IsReduced, IsDecided, IsUndecided};
+ghost use Rattle.structure_list.specs.pns_rules.Ends.{IsFirst};
+ghost use Rattle.structure_list.specs.pgraph.View.{node_of};
 ghost use Rattle.neutral_extension.specs.Candidates.{AreMakersOf};
-ghost use Rattle.tree_rules.specs.Tree.{leaf};
-ghost use Rattle.tree_rules.specs.Leaf.{untried, bounded};
-ghost use Rattle.branch_tree.specs.View.{end_of};
-ghost use Rattle.tree_rules.specs.Known.{AreUnits};
+ghost use Rattle.search_tree.specs.tree_rules.Tree.{leaf};
+ghost use Rattle.search_tree.specs.tree_rules.Leaf.{untried, bounded};
+ghost use Rattle.search_tree.specs.branch_tree.View.{end_of};
+ghost use Rattle.search_tree.specs.tree_rules.Known.{AreUnits};
 ghost use Rattle.search_tree.specs.Growth.{as_shut};
 ghost use Rattle.node_evaluation.specs.Looks.{IsLooked, IsSameNode, IsSeen, IsSettling};
 
 use crate::evaluator::{Bound, Evaluation, Evaluator, FirstLook, LowerBound, PastStop};
 use crate::workspace::Workspace;
 use crate::{Choice, choose};
-use branch_tree::{End, Multipliers, Network, Steps};
-use exact_numbers::Mixed;
 use neutral_extension::{Stop, extend_with};
-use pgraph::Site;
-use search_tree::Cell;
+use search_tree::{Cell, End, Mixed, Multipliers, Network, Steps};
 use std::alloc::AllocError;
-use unit_sets::{Node, UnitSet};
+use structure_list::{Node, Site, UnitSet};
 
 /// What is known of the worth of an open leaf.
 #[derive(Drop)]

@@ -1,17 +1,16 @@
 //! The options of a choice, and the children that they give.
 ghost use Rattle.std.specs.Prelude.{◌≡◌, ◌<◌, ◌∷◌, [], IfOk};
-ghost use Rattle.number_sets.specs.Sets.{has};
-ghost use Rattle.pns_rules.specs.Nodes.{options};
-ghost use Rattle.pgraph.specs.Tables.{shape};
-ghost use Rattle.pgraph.specs.View.{node_of};
-ghost use Rattle.tree_rules.specs.Ways.{decides, options_at, child_at};
+ghost use Rattle.structure_list.specs.number_sets.Sets.{has};
+ghost use Rattle.structure_list.specs.pns_rules.Nodes.{options};
+ghost use Rattle.structure_list.specs.pgraph.Tables.{shape};
+ghost use Rattle.structure_list.specs.pgraph.View.{node_of};
+ghost use Rattle.search_tree.specs.tree_rules.Ways.{decides, options_at, child_at};
 ghost use Rattle.node_evaluation.specs.Choices.{way_of};
 ghost use Rattle.node_evaluation.specs.Children.{IsKnown};
 
 use crate::Choice;
-use pgraph::Graph;
 use std::alloc::{AllocError, Global};
-use unit_sets::{Node, UnitSet};
+use structure_list::{Graph, Node, UnitSet};
 
 /// The options of a material at the node, in numeric order.
 fn options_of_material(

@@ -1,13 +1,10 @@
 //! Units in use that lead to no product, and the units that would lead on from them. It guides a
 //! search, and nothing is promised of it.
 ghost use Rattle.std.specs.Prelude.{◌≡◌};
-ghost use Rattle.pns_rules.specs.Shape.{shape_of};
-ghost use Rattle.pgraph.specs.Tables.{shape};
+ghost use Rattle.structure_list.specs.pns_rules.Shape.{shape_of};
+ghost use Rattle.structure_list.specs.pgraph.Tables.{shape};
 
-use structure_list::maximal;
-use pgraph::Graph;
-use pns_problem::{OperatingUnit, Problem};
-use unit_sets::{MatSet, Node, UnitSet};
+use structure_list::{Graph, MatSet, Node, OperatingUnit, Problem, UnitSet, maximal};
 
 /// Whether a unit may be idle at no cost.
 fn can_stand_still(unit: &OperatingUnit) -> bool {

@@ -1,12 +1,12 @@
 //! What a search works with.
 ghost use Rattle.std.specs.Prelude.{IfOk, OnOk, ◌≡◌};
-ghost use Rattle.pns_rules.specs.Shape.{shape_of};
+ghost use Rattle.structure_list.specs.pns_rules.Shape.{shape_of};
 ghost use Rattle.neutral_extension.specs.Candidates.{AreMakersOf};
 
 use crate::evaluator::Evaluator;
 use neutral_extension::Makers;
-use pgraph::Site;
 use std::alloc::{AllocError, Global};
+use structure_list::Site;
 
 /// What a search over one plant works with: whose memory it takes, an evaluator of the plant's
 /// nodes, and the makers of each material. Calls that take it also take the plant's site.

@@ -7,7 +7,7 @@ use Rattle.std.proofs.lemmas.Bool.{cases_lt}
 use Rattle.std.specs.List.{last_or}
 use Rattle.std.proofs.lemmas.List.{get_or_past, get_or_append_left}
 use Rattle.link_lists.specs.Lists.{has, first, following, IsOnce}
-use Rattle.link_lists.proofs.Cells.{has-here, has-later}
+use Rattle.link_lists.proofs.Cited.{has-here, has-later}
 use Rattle.node_pool.specs.Tree.{parent_of, is_parent, children_from, children}
 
 append_nil : (xs : List ℕ) → xs ++ [] ≡ xs

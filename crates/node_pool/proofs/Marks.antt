@@ -7,8 +7,8 @@ use Rattle.std.specs.List.{slice_get}
 use Rattle.std.proofs.lemmas.List.{length-map}
 use Rattle.link_lists.specs.Lists.{Rows, row, has, without, inserted, with_pushed, with_inserted}
 use Rattle.link_lists.specs.Lists.{with_taken}
-use Rattle.link_lists.proofs.Cells.{has-here, has-later, has-append, has-without, row-pushed}
-use Rattle.link_lists.proofs.Cells.{row-inserted, row-without, length-pushed}
+use Rattle.link_lists.proofs.Cited.{has-here, has-later, has-append, has-without, row-pushed}
+use Rattle.link_lists.proofs.Cited.{row-inserted, row-without, length-pushed}
 use Rattle.node_pool.specs.OneList.{AreMarked, IsOneList}
 
 -- a write at or after the end changes nothing

@@ -13,7 +13,7 @@ use Rattle.exact_numbers.specs.declared.number.Mixed.{Mixed}
 use Rattle.exact_numbers.specs.MixedOrder.{mixed_cmp}
 use Rattle.exact_numbers.specs.MixedOrderLaws.{mixed_cmp_total}
 use Rattle.link_lists.specs.Lists.{has, without, inserted}
-use Rattle.link_lists.proofs.Cells.{has-here, has-later, has-without}
+use Rattle.link_lists.proofs.Cited.{has-here, has-later, has-without}
 use Rattle.node_pool.specs.Order.{at_most, is_at_least, placed, IsAtMost, IsRising, put_before}
 use Rattle.node_pool.proofs.Places.{StaysTrue}
 

@@ -6,7 +6,7 @@ use Rattle.std.proofs.Common.{eq-eqb, ne_eqb, arith}
 use Rattle.std.proofs.lemmas.Bool.{or_cases, both_ways, false_from_ne_true, cases_eq}
 use Rattle.std.specs.List.{find}
 use Rattle.link_lists.specs.Lists.{has, first, following, place_in, IsOnce}
-use Rattle.link_lists.proofs.Cells.{has-here, has-later}
+use Rattle.link_lists.proofs.Cited.{has-here, has-later}
 
 -- if a leaf passes, each leaf after it passes
 abbrev pub StaysTrue : (ℕ → Bool) → List ℕ → Type 0

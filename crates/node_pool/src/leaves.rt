@@ -8,8 +8,8 @@ ghost use Rattle.link_lists.specs.Lists.{first, following, has, row, without, Is
 ghost use Rattle.node_pool.specs.Order.{OpenLeaves, is_at_least, put_before, second, IsRising};
 
 use crate::index::Index;
-use link_lists::Lists;
 use exact_numbers::Mixed;
+use link_lists::Lists;
 use std::alloc::{AllocError, Global};
 use std::marker::Model;
 

@@ -21,4 +21,5 @@ mod leaves;
 pub mod pool;
 mod tree;
 
+pub use exact_numbers::{Mixed, compare_fractions};
 pub use pool::Pool;

@@ -1,3 +1,4 @@
+pub mod Cited
 pub mod MaskOrder
 pub mod OptionLemmas
 pub mod OptionLists

@@ -1,13 +1,13 @@
 -- What is printed of TREE after FILE is read, over the shelf as it was left.
 use Rattle.std.proofs.Common.{◌≡◌, ◌≤◌, ◌⊎◌, ℕ, List, inl, inr, subst}
-use Rattle.text_rules.specs.Outside.{Told}
-use Rattle.text_rules.specs.State.{ShelfState}
-use Rattle.problem_rules.specs.Problem.{Problem}
-use Rattle.studio_rules.specs.Reading.{AreHeld, FileFaults, GivesProblem, OnFile}
-use Rattle.studio_rules.specs.Part.{AgainstWork}
-use Rattle.studio_rules.specs.Ending.{Says}
-use Rattle.studio_rules.specs.declared.status.Status.{Status}
-use Rattle.command_files.proofs.Ending.{Says-map, Says-over}
+use Rattle.network_commands.specs.text_rules.Outside.{Told}
+use Rattle.network_commands.specs.text_rules.State.{ShelfState}
+use Rattle.network_commands.specs.problem_rules.Problem.{Problem}
+use Rattle.network_commands.specs.studio_rules.Reading.{AreHeld, FileFaults, GivesProblem, OnFile}
+use Rattle.network_commands.specs.studio_rules.Part.{AgainstWork}
+use Rattle.network_commands.specs.studio_rules.Ending.{Says}
+use Rattle.network_commands.specs.studio_rules.declared.status.Status.{Status}
+use Rattle.network_commands.proofs.command_files.Cited.{Says-map, Says-over}
 
 module _ (budget : ℕ) (file tree word other : List ℕ) where
   abbrev AllSay : (List ℕ → Told) → Status → List (List ℕ) → Type 0

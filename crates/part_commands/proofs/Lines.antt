@@ -7,18 +7,18 @@ use Rattle.std.proofs.KnownBytes.{Appends-nil, Appends-trans}
 use Rattle.std.proofs.lemmas.List.{map-append, take-append-drop}
 use Rattle.std.proofs.lemmas.Grind.{flat_map-append}
 use Rattle.std.proofs.Math.Seq.{take-suc, drop-cons}
-use Rattle.text_rules.specs.Outside.{HasRisen, AppendsFront}
-use Rattle.text_rules.specs.State.{SinkState, OutputsState}
-use Rattle.tree_text_rules.specs.OpenLeaves.{OpenAt}
-use Rattle.cert_check.specs.declared.open_leaf.OpenLeaf.{OpenLeaf}
-use Rattle.cert_check.specs.OpenLeaves.{leaf_at, leaves_at}
-use Rattle.studio_rules.specs.Split.{part_line, split_lines, LeavesSay}
-use Rattle.studio_rules.specs.Lines.{line, text_of}
-use Rattle.studio_rules.specs.Ending.{Ends, Tells, Only}
-use Rattle.studio_rules.specs.declared.status.Status.{Status}
-use Rattle.studio_rules.specs.declared.status.Status.TheVariants.{Done, WriteFault, Memory}
-use Rattle.command_files.proofs.Ending.{GoesOut, Ends-after, only_in}
-use Rattle.command_files.proofs.Put.{Ends-stopped}
+use Rattle.network_commands.specs.text_rules.Outside.{HasRisen, AppendsFront}
+use Rattle.network_commands.specs.text_rules.State.{SinkState, OutputsState}
+use Rattle.network_commands.specs.tree_text_rules.OpenLeaves.{OpenAt}
+use Rattle.network_commands.specs.cert_check.declared.open_leaf.OpenLeaf.{OpenLeaf}
+use Rattle.network_commands.specs.cert_check.OpenLeaves.{leaf_at, leaves_at}
+use Rattle.network_commands.specs.studio_rules.Split.{part_line, split_lines, LeavesSay}
+use Rattle.network_commands.specs.studio_rules.Lines.{line, text_of}
+use Rattle.network_commands.specs.studio_rules.Ending.{Ends, Tells, Only}
+use Rattle.network_commands.specs.studio_rules.declared.status.Status.{Status}
+use Rattle.network_commands.specs.studio_rules.declared.status.Status.TheVariants.{Done, WriteFault}
+use Rattle.network_commands.specs.studio_rules.declared.status.Status.TheVariants.{Memory}
+use Rattle.network_commands.proofs.command_files.Cited.{GoesOut, Ends-after, only_in, Ends-stopped}
 
 text_of-push : (ls : List (List ℕ)) (l : List ℕ) → text_of (ls ++ l ∷ []) ≡ text_of ls ++ line l
 text_of-push ls l = flat_map-append line ls (l ∷ [])

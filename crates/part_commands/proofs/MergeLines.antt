@@ -1,19 +1,21 @@
 -- Merged trees are known to the problem, and the tree that is printed.
 use Rattle.std.proofs.Common.{◌≡◌, ◌<◌, length, ◌++◌, ◌*ℤ◌, int_lt, Bool, true, false, ℕ, zero, suc}
 use Rattle.std.proofs.Common.{List, [], ◌∷◌, refl, sym, subst, if◌then◌else◌}
-use Rattle.number_sets.proofs.SetLemmas.{has_below}
-use Rattle.problem_rules.specs.Each.{Each}
-use Rattle.problem_rules.specs.Problem.{Problem}
-use Rattle.text_laws.proofs.Each.{each-append}
-use Rattle.pns_rules.specs.Shape.{Shape, shape_of}
-use Rattle.cert_check.specs.Known.{KnowsInside}
-use Rattle.tree_rules.specs.Claim.{Claim, Network, network, infeasible, unknown}
-use Rattle.tree_rules.specs.Accepted.{Tree}
-use Rattle.tree_rules.specs.Known.{KnowsStep, KnowsNode, KnowsTree, KnowsClaim, AreUnits}
-use Rattle.tree_text_rules.specs.Graft.{graft_at, grafted, claim_of_both, cheaper, has_open}
-use Rattle.tree_text_rules.specs.Part.{Part, start_of}
-use Rattle.tree_text_rules.specs.Several.{AreMerged}
-use Rattle.tree_text_rules.specs.PartSpelling.{KnowsPart}
+use Rattle.network_commands.proofs.number_sets.Cited.{has_below}
+use Rattle.network_commands.specs.problem_rules.Each.{Each}
+use Rattle.network_commands.specs.problem_rules.Problem.{Problem}
+use Rattle.network_commands.proofs.text_laws.Cited.{each-append}
+use Rattle.network_commands.specs.pns_rules.Shape.{Shape, shape_of}
+use Rattle.network_commands.specs.cert_check.Known.{KnowsInside}
+use Rattle.network_commands.specs.tree_rules.Claim.{Claim, Network, network, infeasible, unknown}
+use Rattle.network_commands.specs.tree_rules.Accepted.{Tree}
+use Rattle.network_commands.specs.tree_rules.Known.{KnowsStep, KnowsNode, KnowsTree, KnowsClaim}
+use Rattle.network_commands.specs.tree_rules.Known.{AreUnits}
+use Rattle.network_commands.specs.tree_text_rules.Graft.{graft_at, grafted, claim_of_both, cheaper}
+use Rattle.network_commands.specs.tree_text_rules.Graft.{has_open}
+use Rattle.network_commands.specs.tree_text_rules.Part.{Part, start_of}
+use Rattle.network_commands.specs.tree_text_rules.Several.{AreMerged}
+use Rattle.network_commands.specs.tree_text_rules.PartSpelling.{KnowsPart}
 
 module _ (p : Problem) where
   graft_known : (k : ℕ) (ts part : Tree) → KnowsTree p ts → KnowsTree p part

@@ -3,20 +3,21 @@ use Rattle.std.proofs.Common.{◌≡◌, Bool, ◌≤◌, ◌<◌, ◌+◌, ℕ,
 use Rattle.std.proofs.Common.{get_or, refl, sym, ap, ◌∙◌, subst, inl, inr, ◌⊎◌, add-one}
 use Rattle.std.specs.List.{Contains}
 use Rattle.std.proofs.Math.Seq.{take-suc, take-length}
-use Rattle.text_rules.specs.Outside.{Told}
-use Rattle.text_rules.specs.State.{ShelfState}
-use Rattle.problem_rules.specs.Problem.{Problem}
-use Rattle.tree_rules.specs.Claim.{Claim}
-use Rattle.tree_rules.specs.Accepted.{Tree}
-use Rattle.tree_text_rules.specs.Part.{Part}
-use Rattle.studio_rules.specs.Reading.{AreHeld, FileFaults, GivesProblem, OnFile}
-use Rattle.studio_rules.specs.TreeFile.{GivesTree, OnTree, TreeFaults, TreeSays}
-use Rattle.studio_rules.specs.Merge.{MergeSays, MergeWork}
-use Rattle.studio_rules.specs.PartFile.{GivesPart, GiveParts, PartFault, PartFaults, FirstFault}
-use Rattle.studio_rules.specs.PartFile.{are_several}
-use Rattle.studio_rules.specs.Ending.{Says, Tells}
-use Rattle.studio_rules.specs.declared.status.Status.{Status}
-use Rattle.command_files.proofs.Ending.{Says-map, Says-told, Says-over}
+use Rattle.network_commands.specs.text_rules.Outside.{Told}
+use Rattle.network_commands.specs.text_rules.State.{ShelfState}
+use Rattle.network_commands.specs.problem_rules.Problem.{Problem}
+use Rattle.network_commands.specs.tree_rules.Claim.{Claim}
+use Rattle.network_commands.specs.tree_rules.Accepted.{Tree}
+use Rattle.network_commands.specs.tree_text_rules.Part.{Part}
+use Rattle.network_commands.specs.studio_rules.Reading.{AreHeld, FileFaults, GivesProblem, OnFile}
+use Rattle.network_commands.specs.studio_rules.TreeFile.{GivesTree, OnTree, TreeFaults, TreeSays}
+use Rattle.network_commands.specs.studio_rules.Merge.{MergeSays, MergeWork}
+use Rattle.network_commands.specs.studio_rules.PartFile.{GivesPart, GiveParts, PartFault}
+use Rattle.network_commands.specs.studio_rules.PartFile.{PartFaults, FirstFault}
+use Rattle.network_commands.specs.studio_rules.PartFile.{are_several}
+use Rattle.network_commands.specs.studio_rules.Ending.{Says, Tells}
+use Rattle.network_commands.specs.studio_rules.declared.status.Status.{Status}
+use Rattle.network_commands.proofs.command_files.Cited.{Says-map, Says-told, Says-over}
 
 -- ---- parts in order
 

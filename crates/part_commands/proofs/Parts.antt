@@ -1,28 +1,29 @@
 -- What a search found, as a part that can be printed.
 use Rattle.std.proofs.Common.{◌≡◌, ◌<◌, ◌^◌, ℕ, List, [], ◌∷◌, Option, Some, None, length, sym}
 use Rattle.std.proofs.Common.{subst, arith, inl, inr}
-use Rattle.number_sets.specs.Sets.{has}
-use Rattle.problem_rules.specs.Problem.{Problem}
-use Rattle.pns_rules.specs.Nodes.{Node}
-use Rattle.flow_rules.specs.declared.place.Column.{Column}
-use Rattle.flow_rules.specs.declared.place.Place.{Place}
-use Rattle.tree_rules.specs.Claim.{Network, network, infeasible}
-use Rattle.tree_rules.specs.Accepted.{Tree}
-use Rattle.tree_rules.specs.Known.{KnowsClaim, KnowsTree, KnowsTail}
-use Rattle.tree_rules.specs.Tail as tails
-use Rattle.tree_text_rules.specs.Read.{Certificate}
-use Rattle.node_evaluation.specs.Children.{claim_with}
-use Rattle.abb_search.specs.declared.outcome.Found.{Found}
-use Rattle.abb_search.specs.declared.outcome.Found.TheVariants as found
-use Rattle.abb_search.specs.Found.{IsFound}
-use Rattle.abb_search.specs.Answers.{IsAgainst}
-use Rattle.studio_rules.specs.Solve.{status_of}
-use Rattle.studio_rules.specs.Part.{part_from, HoldsFrom, NoDearer, PartSays}
+use Rattle.network_commands.specs.number_sets.Sets.{has}
+use Rattle.network_commands.specs.problem_rules.Problem.{Problem}
+use Rattle.network_commands.specs.pns_rules.Nodes.{Node}
+use Rattle.network_commands.specs.flow_rules.declared.place.Column.{Column}
+use Rattle.network_commands.specs.flow_rules.declared.place.Place.{Place}
+use Rattle.network_commands.specs.tree_rules.Claim.{Network, network, infeasible}
+use Rattle.network_commands.specs.tree_rules.Accepted.{Tree}
+use Rattle.network_commands.specs.tree_rules.Known.{KnowsClaim, KnowsTree, KnowsTail}
+use Rattle.network_commands.specs.tree_rules.Tail as tails
+use Rattle.network_commands.specs.tree_text_rules.Read.{Certificate}
+use Rattle.network_commands.specs.node_evaluation.Children.{claim_with}
+use Rattle.searches.specs.abb_search.declared.outcome.Found.{Found}
+use Rattle.searches.specs.abb_search.declared.outcome.Found.TheVariants as found
+use Rattle.searches.specs.abb_search.Found.{IsFound}
+use Rattle.searches.specs.abb_search.Answers.{IsAgainst}
+use Rattle.network_commands.specs.studio_rules.Solve.{status_of}
+use Rattle.network_commands.specs.studio_rules.Part.{part_from, HoldsFrom, NoDearer, PartSays}
 use Rattle.searches.specs.Found.{certificate_of}
 use Rattle.part_commands.specs.Found.{TextSays, FoundSays}
-use Rattle.studio_rules.specs.Ending.{IsOneOf}
-use Rattle.studio_rules.specs.declared.status.Status.{Status}
-use Rattle.studio_rules.specs.declared.status.Status.TheVariants.{Done, Spent, Past}
+use Rattle.network_commands.specs.studio_rules.Ending.{IsOneOf}
+use Rattle.network_commands.specs.studio_rules.declared.status.Status.{Status}
+use Rattle.network_commands.specs.studio_rules.declared.status.Status.TheVariants.{Done, Spent}
+use Rattle.network_commands.specs.studio_rules.declared.status.Status.TheVariants.{Past}
 
 pub record CanPrint (p : Problem) (c : Certificate) : Type 0 where
   pub claim : KnowsClaim p c.claim

@@ -1,13 +1,13 @@
 -- Words that name no sound node.
 use Rattle.std.proofs.Common.{◌≡◌, ◌≤◌, ℕ, List, length, sym, subst}
-use Rattle.number_sets.specs.Sets.{has}
-use Rattle.problem_rules.specs.Problem.{Problem}
-use Rattle.pns_rules.specs.Shape.{shape_of}
-use Rattle.pns_rules.specs.Ends.{IsSound}
-use Rattle.tree_rules.specs.Known.{AreUnits}
-use Rattle.pns_rules.specs.Tokens.{token_of}
-use Rattle.tree_parts.proofs.Tokens.{one_set, wider}
-use Rattle.studio_rules.specs.Start.{IsStart}
+use Rattle.network_commands.specs.number_sets.Sets.{has}
+use Rattle.network_commands.specs.problem_rules.Problem.{Problem}
+use Rattle.network_commands.specs.pns_rules.Shape.{shape_of}
+use Rattle.network_commands.specs.pns_rules.Ends.{IsSound}
+use Rattle.network_commands.specs.tree_rules.Known.{AreUnits}
+use Rattle.network_commands.specs.pns_rules.Tokens.{token_of}
+use Rattle.network_commands.proofs.tree_parts.Cited.{one_set, wider}
+use Rattle.network_commands.specs.studio_rules.Start.{IsStart}
 
 module _ (p : Problem) (word other : List ℕ) (few : length p.units ≤ 128) where
   pub not_sound : (taken left : List ℕ) → AreUnits p taken → AreUnits p left → word ≡ token_of taken

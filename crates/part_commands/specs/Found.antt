@@ -1,17 +1,17 @@
 -- The part that a search found, and its text.
 use Rattle.std.specs.Prelude.{◌≡◌, ℕ, List, Some, Ok}
-use Rattle.problem_rules.specs.Problem.{Problem}
-use Rattle.tree_text_rules.specs.Read.{Certificate}
-use Rattle.tree_text_rules.specs.Part.{Part}
-use Rattle.tree_text_rules.specs.PartRead.{PartReads}
-use Rattle.tree_text_rules.specs.PartSpelling.{part_text, part_text_lines}
-use Rattle.studio_rules.specs.Lines.{text_of}
-use Rattle.studio_rules.specs.Part.{part_from}
-use Rattle.abb_search.specs.declared.outcome.Found.{Found}
-use Rattle.studio_rules.specs.Solve.{status_of}
+use Rattle.network_commands.specs.problem_rules.Problem.{Problem}
+use Rattle.network_commands.specs.tree_text_rules.Read.{Certificate}
+use Rattle.network_commands.specs.tree_text_rules.Part.{Part}
+use Rattle.network_commands.specs.tree_text_rules.PartRead.{PartReads}
+use Rattle.network_commands.specs.tree_text_rules.PartSpelling.{part_text, part_text_lines}
+use Rattle.network_commands.specs.studio_rules.Lines.{text_of}
+use Rattle.network_commands.specs.studio_rules.Part.{part_from}
+use Rattle.searches.specs.abb_search.declared.outcome.Found.{Found}
+use Rattle.network_commands.specs.studio_rules.Solve.{status_of}
 use Rattle.searches.specs.Found.{certificate_of}
-use Rattle.studio_rules.specs.Printed.{spelled}
-use Rattle.studio_rules.specs.declared.status.Status.{Status}
+use Rattle.network_commands.specs.studio_rules.Printed.{spelled}
+use Rattle.network_commands.specs.studio_rules.declared.status.Status.{Status}
 
 -- the text of the part reads as it
 abbrev pub ReadsBack : Problem → Part → Type 0

@@ -1,24 +1,21 @@
 //! The part that a search found.
 ghost use Rattle.std.specs.Prelude.{◌≡◌, ◌<◌, ◌^◌, ℕ, length};
-ghost use Rattle.pgraph.specs.View.{node_of};
-ghost use Rattle.tree_rules.specs.Known.{AreUnits, KnowsClaim, KnowsTree, KnowsTail};
-ghost use Rattle.tree_text_rules.specs.Part.{IsApart};
-ghost use Rattle.abb_search.specs.Found.{IsFound};
-ghost use Rattle.studio_rules.specs.Part.{part_from};
+ghost use Rattle.network_commands.specs.pgraph.View.{node_of};
+ghost use Rattle.network_commands.specs.tree_rules.Known.{AreUnits, KnowsClaim, KnowsTree};
+ghost use Rattle.network_commands.specs.tree_rules.Known.{KnowsTail};
+ghost use Rattle.network_commands.specs.tree_text_rules.Part.{IsApart};
+ghost use Rattle.searches.specs.abb_search.Found.{IsFound};
+ghost use Rattle.network_commands.specs.studio_rules.Part.{part_from};
 ghost use Rattle.part_commands.specs.Found.{ReadsBack, TextSays, FoundSays};
-ghost use Rattle.studio_rules.specs.Ending.{Ends, Tells};
+ghost use Rattle.network_commands.specs.studio_rules.Ending.{Ends, Tells};
 
-use abb_search::Found;
-use command_files::say::{say_memory, say_searched};
-use tree_parts::{print_part, spelled_parts_read};
-use pns_io::{Outputs, Sink};
-use pns_problem::Problem;
-use searches::{Certificate, certificate_of, claimed, status_of, stopped_notes};
+use network_commands::say::{say_memory, say_searched};
+use network_commands::{
+    Node, Outputs, Part, Problem, Sink, Status, print_part, read_texts_are_spelled,
+    spelled_parts_read,
+};
+use searches::{Certificate, Found, certificate_of, claimed, status_of, stopped_notes};
 use std::alloc::Global;
-use studio_rules::Status;
-use tree_parts::Part;
-use tree_text_laws::read_texts_are_spelled;
-use unit_sets::Node;
 
 // The text of the part of a run from the node reads back as it. A call shows this to a proof, and
 // does nothing.

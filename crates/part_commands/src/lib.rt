@@ -18,3 +18,10 @@ pub mod part;
 mod part_file;
 pub mod split;
 mod start;
+
+pub use network_commands::{
+    grafts_are_partial, graph, network_has_one_fault, open_leaves_stand, order_is_free,
+    parts_are_read_once, plain_texts_are_headed, push_six_digits, ranking_has_one_fault,
+    read_parts_are_spelled, read_texts_are_spelled, spelled_texts_read, table,
+};
+pub use searches::{expansion, planned, solve, trial};

@@ -2,39 +2,34 @@
 ghost use Rattle.std.specs.Prelude.{◌≡◌, ◌<◌, ◌⊎◌, ◌++◌, List, ℕ, [], IfOk, get_or, length, map};
 ghost use Rattle.std.specs.Prelude.{string_bytes};
 ghost use Rattle.std.specs.List.{Contains};
-ghost use Rattle.problem_rules.specs.Each.{Each};
-ghost use Rattle.tree_rules.specs.Known.{KnowsClaim, KnowsTree};
-ghost use Rattle.branch_tree.specs.View.{claim_of};
-ghost use Rattle.tree_rules.specs.Tail.{whole};
-ghost use Rattle.tree_text_rules.specs.PartSpelling.{KnowsPart};
-ghost use Rattle.tree_text_rules.specs.Spelling.{tree_text_lines};
-ghost use Rattle.studio_rules.specs.Reading.{OnFile};
-ghost use Rattle.studio_rules.specs.TreeFile.{OnTree};
-ghost use Rattle.studio_rules.specs.Merge.{TreeRefused, PartRefused, FaultSays, MergeSays};
-ghost use Rattle.studio_rules.specs.Merge.{MergeWork, part_claim_line, part_node_line};
-ghost use Rattle.studio_rules.specs.Merge.{no_leaf_line};
-ghost use Rattle.studio_rules.specs.PartFile.{are_several};
-ghost use Rattle.studio_rules.specs.Lines.{line};
-ghost use Rattle.studio_rules.specs.Printed.{OneAnswer};
-ghost use Rattle.studio_rules.specs.Ending.{Ends, Says, Tells, Only, OrMemory, IsRefusal};
-ghost use Rattle.studio_rules.specs.Keeps.{Keeps};
-ghost use Rattle.studio_rules.specs.declared.status.Status.TheVariants.{Done};
+ghost use Rattle.network_commands.specs.problem_rules.Each.{Each};
+ghost use Rattle.network_commands.specs.tree_rules.Known.{KnowsClaim, KnowsTree};
+ghost use Rattle.network_commands.specs.branch_tree.View.{claim_of};
+ghost use Rattle.network_commands.specs.tree_rules.Tail.{whole};
+ghost use Rattle.network_commands.specs.tree_text_rules.PartSpelling.{KnowsPart};
+ghost use Rattle.network_commands.specs.tree_text_rules.Spelling.{tree_text_lines};
+ghost use Rattle.network_commands.specs.studio_rules.Reading.{OnFile};
+ghost use Rattle.network_commands.specs.studio_rules.TreeFile.{OnTree};
+ghost use Rattle.network_commands.specs.studio_rules.Merge.{TreeRefused, PartRefused, FaultSays};
+ghost use Rattle.network_commands.specs.studio_rules.Merge.{MergeSays};
+ghost use Rattle.network_commands.specs.studio_rules.Merge.{MergeWork, part_claim_line};
+ghost use Rattle.network_commands.specs.studio_rules.Merge.{part_node_line};
+ghost use Rattle.network_commands.specs.studio_rules.Merge.{no_leaf_line};
+ghost use Rattle.network_commands.specs.studio_rules.PartFile.{are_several};
+ghost use Rattle.network_commands.specs.studio_rules.Lines.{line};
+ghost use Rattle.network_commands.specs.studio_rules.Printed.{OneAnswer};
+ghost use Rattle.network_commands.specs.studio_rules.Ending.{Ends, Says, Tells, Only, OrMemory};
+ghost use Rattle.network_commands.specs.studio_rules.Ending.{IsRefusal};
+ghost use Rattle.network_commands.specs.studio_rules.Keeps.{Keeps};
+ghost use Rattle.network_commands.specs.studio_rules.declared.status.Status.TheVariants.{Done};
 
 use crate::part_file::{parts_of, push_part};
-use branch_tree::{Claim, Tail, Tree};
-use command_files::{problem_of, tree_of};
-use command_files::say::{say_memory, say_printed, tell_made, tell_with};
-use studio_words::{no_leaf, refused};
-use tree_text_rules::MergeFault;
-use pgraph::{Graph, Site};
-use pns_io::{Outputs, Shelf, Sink};
-use pns_problem::Problem;
-use command_files::{tell_node, why_word};
+use network_commands::say::{say_memory, say_printed, tell_made, tell_with};
+use network_commands::{
+    Claim, Graph, MergeFault, Outputs, Part, Problem, Refusal, Shelf, Sink, Site, Status, Tail,
+    Tree, Why, merge_all, no_leaf, print_tree, problem_of, refused, tell_node, tree_of, why_word,
+};
 use std::alloc::{AllocError, Global};
-use studio_rules::Status;
-use tree_parts::{Part, merge_all};
-use tree_rules::{Refusal, Why};
-use tree_text::print_tree;
 
 fn part_claim_line(alloc: Global, several: bool, name: &str, why: Why) -> Result<String, AllocError>
     ensures { IfOk result

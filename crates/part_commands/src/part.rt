@@ -1,33 +1,28 @@
 //! The command `part`.
 ghost use Rattle.std.specs.Prelude.{◌≡◌, ◌≤◌, Some, None};
-ghost use Rattle.pns_rules.specs.Shape.{shape_of};
-ghost use Rattle.pns_rules.specs.Ends.{IsSound};
-ghost use Rattle.pgraph.specs.Tables.{shape};
-ghost use Rattle.pgraph.specs.View.{node_of};
-ghost use Rattle.tree_rules.specs.Claim.{IsFeasible};
-ghost use Rattle.tree_rules.specs.Known.{AreUnits};
-ghost use Rattle.branch_tree.specs.View.{claim_of};
-ghost use Rattle.studio_rules.specs.Reading.{FileSays, TwoFilesSay};
-ghost use Rattle.studio_rules.specs.TreeFile.{OnTree};
-ghost use Rattle.studio_rules.specs.Part.{PartSays, PartWork, ClaimSays, AgainstWork};
-ghost use Rattle.studio_rules.specs.Ending.{Ends, Says, Tells};
-ghost use Rattle.studio_rules.specs.Keeps.{Keeps};
+ghost use Rattle.network_commands.specs.pns_rules.Shape.{shape_of};
+ghost use Rattle.network_commands.specs.pns_rules.Ends.{IsSound};
+ghost use Rattle.network_commands.specs.pgraph.Tables.{shape};
+ghost use Rattle.network_commands.specs.pgraph.View.{node_of};
+ghost use Rattle.network_commands.specs.tree_rules.Claim.{IsFeasible};
+ghost use Rattle.network_commands.specs.tree_rules.Known.{AreUnits};
+ghost use Rattle.network_commands.specs.branch_tree.View.{claim_of};
+ghost use Rattle.network_commands.specs.studio_rules.Reading.{FileSays, TwoFilesSay};
+ghost use Rattle.network_commands.specs.studio_rules.TreeFile.{OnTree};
+ghost use Rattle.network_commands.specs.studio_rules.Part.{PartSays, PartWork, ClaimSays};
+ghost use Rattle.network_commands.specs.studio_rules.Part.{AgainstWork};
+ghost use Rattle.network_commands.specs.studio_rules.Ending.{Ends, Says, Tells};
+ghost use Rattle.network_commands.specs.studio_rules.Keeps.{Keeps};
 
 use crate::found::say_found;
 use crate::start::start_of;
-use branch_tree::{Claim, Network, Tree};
-use command_files::{problem_of, tree_of};
-use command_files::say::{say_memory, tell};
-use studio_words::bad_node;
-use network_commands::network_of;
-use pgraph::{Graph, Site};
-use pns_io::{Outputs, Shelf, Sink};
-use pns_problem::Problem;
-use pns_io::{Effort, Watch};
-use solver::search_watched;
+use network_commands::say::{say_memory, tell};
+use network_commands::{
+    Claim, Effort, Graph, Network, Node, Outputs, Problem, Shelf, Sink, Site, Status, Tree, Watch,
+    bad_node, network_of, problem_of, tree_of,
+};
+use searches::search_watched;
 use std::alloc::Global;
-use studio_rules::Status;
-use unit_sets::Node;
 
 // Searches the structures of the node.
 fn say_searched<K: Sink, E: Sink, W: Watch>(

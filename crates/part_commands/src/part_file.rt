@@ -2,27 +2,24 @@
 ghost use Rattle.std.specs.Prelude.{◌≡◌, ◌++◌, ℕ, List, IfOk, IfErr, OnOk, codes, map};
 ghost use Rattle.std.specs.Prelude.{string_bytes};
 ghost use Rattle.std.specs.List.{Contains};
-ghost use Rattle.problem_rules.specs.Each.{Each};
-ghost use Rattle.studio_rules.specs.Lines.{line};
-ghost use Rattle.tree_text_rules.specs.PartSpelling.{KnowsPart};
-ghost use Rattle.studio_rules.specs.Reading.{AreHeld};
-ghost use Rattle.studio_rules.specs.PartFile.{GivesPart, PartFaults, GiveParts, FirstFault};
-ghost use Rattle.studio_rules.specs.PartFile.{are_several, part_words, part_fault_line};
-ghost use Rattle.studio_rules.specs.Ending.{Ends, Says, Only, OrMemory};
-ghost use Rattle.studio_rules.specs.Keeps.{Keeps};
-ghost use Rattle.studio_rules.specs.declared.status.Status.TheVariants.{BadTree};
+ghost use Rattle.network_commands.specs.problem_rules.Each.{Each};
+ghost use Rattle.network_commands.specs.studio_rules.Lines.{line};
+ghost use Rattle.network_commands.specs.tree_text_rules.PartSpelling.{KnowsPart};
+ghost use Rattle.network_commands.specs.studio_rules.Reading.{AreHeld};
+ghost use Rattle.network_commands.specs.studio_rules.PartFile.{GivesPart, PartFaults, GiveParts};
+ghost use Rattle.network_commands.specs.studio_rules.PartFile.{FirstFault};
+ghost use Rattle.network_commands.specs.studio_rules.PartFile.{are_several, part_words};
+ghost use Rattle.network_commands.specs.studio_rules.PartFile.{part_fault_line};
+ghost use Rattle.network_commands.specs.studio_rules.Ending.{Ends, Says, Only, OrMemory};
+ghost use Rattle.network_commands.specs.studio_rules.Keeps.{Keeps};
+ghost use Rattle.network_commands.specs.studio_rules.declared.status.Status.TheVariants.{BadTree};
 
-use command_files::{bytes_of, tree_kind_word};
-use command_files::say::{say_memory, tell_made};
-use studio_words::{Format, Source, fault};
-use tree_parts::read_part;
-use pns_io::{Outputs, Shelf, Sink};
-use pns_problem::Problem;
+use network_commands::say::{say_memory, tell_made};
+use network_commands::{
+    Format, Outputs, Part, Problem, Shelf, Sink, Source, Status, TreeFault, TreeKind, bytes_of,
+    fault, read_part, tree_kind_word,
+};
 use std::alloc::{AllocError, Global};
-use studio_rules::Status;
-use tree_parts::Part;
-use tree_reading::TreeFault;
-use tree_text_rules::TreeKind;
 
 /// The most bytes of a part file.
 const PART_LIMIT: u64 = 268_435_456;

@@ -1,30 +1,23 @@
 //! The command `split`.
 ghost use Rattle.std.specs.Prelude.{◌≡◌, ◌<◌, ◌^◌, IfOk, OnOk, length, map, string_bytes};
-ghost use Rattle.number_sets.specs.Sets.{has};
-ghost use Rattle.branch_tree.specs.View.{claim_of};
-ghost use Rattle.cert_check.specs.OpenLeaves.{leaf_at, leaves_at};
-ghost use Rattle.studio_rules.specs.Lines.{line, text_of};
-ghost use Rattle.studio_rules.specs.Reading.{TwoFilesSay};
-ghost use Rattle.studio_rules.specs.TreeFile.{OnTree};
-ghost use Rattle.studio_rules.specs.Split.{SplitWork, LeavesSay, part_line, token_in};
-ghost use Rattle.studio_rules.specs.Ending.{Ends, Says, Tells};
-ghost use Rattle.studio_rules.specs.Keeps.{Keeps};
+ghost use Rattle.network_commands.specs.number_sets.Sets.{has};
+ghost use Rattle.network_commands.specs.branch_tree.View.{claim_of};
+ghost use Rattle.network_commands.specs.cert_check.OpenLeaves.{leaf_at, leaves_at};
+ghost use Rattle.network_commands.specs.studio_rules.Lines.{line, text_of};
+ghost use Rattle.network_commands.specs.studio_rules.Reading.{TwoFilesSay};
+ghost use Rattle.network_commands.specs.studio_rules.TreeFile.{OnTree};
+ghost use Rattle.network_commands.specs.studio_rules.Split.{SplitWork, LeavesSay, part_line};
+ghost use Rattle.network_commands.specs.studio_rules.Split.{token_in};
+ghost use Rattle.network_commands.specs.studio_rules.Ending.{Ends, Says, Tells};
+ghost use Rattle.network_commands.specs.studio_rules.Keeps.{Keeps};
 
-use branch_tree::{Claim, Tree};
-use command_files::{problem_of, tree_of};
-use command_files::outputs::put_answer;
-use command_files::say::{say, say_memory, tell_with};
-use studio_words::refused;
-use pgraph::{Graph, Site};
-use pns_io::{Outputs, Shelf, Sink};
-use pns_problem::Problem;
-use command_files::{tell_node, why_word};
+use network_commands::outputs::put_answer;
+use network_commands::say::{say, say_memory, tell_with};
+use network_commands::{
+    Claim, Graph, OpenLeaf, Outputs, Problem, Refusal, Shelf, Sink, Site, Status, Tree, UnitSet,
+    open_leaves, print_token, problem_of, refused, tell_node, tree_of, why_word,
+};
 use std::alloc::{AllocError, Global};
-use structure_list::print_token;
-use studio_rules::Status;
-use tree_parts::{OpenLeaf, open_leaves};
-use tree_rules::Refusal;
-use unit_sets::UnitSet;
 
 fn token_in(alloc: Global, set: UnitSet) -> Result<String, AllocError>
     ensures { IfOk result (λ text. string_bytes text ≡ token_in (has set)) }

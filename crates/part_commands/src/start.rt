@@ -1,14 +1,10 @@
 //! The node at which a run begins.
 ghost use Rattle.std.specs.Prelude.{◌≡◌, ℕ, List, IfSome, IfNone};
-ghost use Rattle.pns_rules.specs.Shape.{shape_of};
-ghost use Rattle.pgraph.specs.Tables.{shape};
-ghost use Rattle.studio_rules.specs.Start.{IsStart};
+ghost use Rattle.network_commands.specs.pns_rules.Shape.{shape_of};
+ghost use Rattle.network_commands.specs.pgraph.Tables.{shape};
+ghost use Rattle.network_commands.specs.studio_rules.Start.{IsStart};
 
-use tree_parts::units_named;
-use pgraph::Graph;
-use pns_problem::Problem;
-use tree_parts::is_sound;
-use unit_sets::Node;
+use network_commands::{Graph, Node, Problem, is_sound, units_named};
 
 /// The sound node that the words name. It is `None` if and only if they name none.
 pub(crate) fn start_of(

@@ -4,10 +4,10 @@ use Rattle.std.proofs.Common.{refl, ap, sym, ◌∙◌, subst}
 use Rattle.std.specs.Prelude.{ℤ, pos, ◌+ℤ◌, ◌*ℤ◌, neg_ℤ, ◌<ℤ◌, nat_eq}
 use Rattle.std.proofs.lemmas.Int.{ints}
 use Rattle.std.proofs.lemmas.Bool.Decides.{eqb_tells}
-use Rattle.integer_laws.proofs.IndexTotals.{total_below-same, total_below-zero, total_below-single}
-use Rattle.integer_laws.proofs.Order.{mul_pos}
-use Rattle.integer_laws.proofs.Ring.{V, ◌⊕◌, ◌⊗◌, Neg, ring, mul-zero_z}
-use Rattle.integer_laws.specs.Total.{total_below}
+use Rattle.flow_rules.proofs.integer_laws.Cited.{total_below-same, total_below-zero}
+use Rattle.flow_rules.proofs.integer_laws.Cited.{total_below-single}
+use Rattle.flow_rules.proofs.integer_laws.Cited.{mul_pos, V, ◌⊕◌, ◌⊗◌, Neg, ring, mul-zero_z}
+use Rattle.flow_rules.specs.integer_laws.Total.{total_below}
 use Rattle.flow_rules.specs.Columns.{Basis, Has, right_at, scale_at, columns}
 use Rattle.flow_rules.specs.Equations.{dot}
 use Rattle.flow_rules.specs.LinearProgram.{LinearProgram}

@@ -6,7 +6,7 @@ use Rattle.std.specs.Prelude.{ℤ, pos, ◌+ℤ◌, ◌-ℤ◌, ◌*ℤ◌, neg_
 use Rattle.std.specs.Int.{◌∣◌}
 use Rattle.std.proofs.Math.Path.{fun_ext}
 use Rattle.std.proofs.lemmas.Bool.Decides.{leb_tells}
-use Rattle.integer_laws.proofs.IndexTotals.{total_below-same}
+use Rattle.flow_rules.proofs.integer_laws.Cited.{total_below-same}
 use Rattle.flow_rules.specs.LinearProgram.{LinearProgram, low_flow}
 use Rattle.flow_rules.specs.Columns.{Basis, Has, x_at, s_at, t_at, w_at, columns, right_at}
 use Rattle.flow_rules.specs.Columns.{scale_at}

@@ -5,9 +5,9 @@ use Rattle.std.proofs.Common.{sym, ◌∙◌}
 use Rattle.std.specs.Prelude.{ℤ, pos, ◌+ℤ◌, ◌-ℤ◌, ◌*ℤ◌, neg_ℤ, ◌<ℤ◌}
 use Rattle.std.proofs.lemmas.Int.{ints}
 use Rattle.std.proofs.lemmas.Bool.Decides.{eqb_tells}
-use Rattle.integer_laws.proofs.Order.{zero_of-mul, cancel}
-use Rattle.integer_laws.proofs.Ring.{V, ◌⊕◌, ◌⊖◌, ◌⊗◌, Neg, ring, read_equal}
-use Rattle.integer_laws.specs.Total.{total_below}
+use Rattle.flow_rules.proofs.integer_laws.Cited.{zero_of-mul, cancel, V, ◌⊕◌, ◌⊖◌, ◌⊗◌, Neg, ring}
+use Rattle.flow_rules.proofs.integer_laws.Cited.{read_equal}
+use Rattle.flow_rules.specs.integer_laws.Total.{total_below}
 use Rattle.flow_rules.specs.Columns.{Basis, Has, x_at, s_at, t_at, w_at, right_at, scale_at}
 use Rattle.flow_rules.specs.Equations.{IsCombination}
 use Rattle.flow_rules.specs.LinearProgram.{LinearProgram}

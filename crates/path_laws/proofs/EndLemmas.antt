@@ -4,16 +4,14 @@ use Rattle.std.specs.Prelude.{ℤ, pos, ◌+ℤ◌, ◌*ℤ◌, ◌<ℤ◌, ◌�
 use Rattle.std.specs.List.{range_with_len}
 use Rattle.std.proofs.lemmas.Int.{ints}
 use Rattle.std.proofs.lemmas.List.FromFn.{length-map-range_with_len}
-use Rattle.integer_laws.proofs.Ring.{V, ◌⊗◌, ring, mul_comm_z}
-use Rattle.integer_laws.proofs.Order.{pos_of-mul, cancel}
-use Rattle.problem_rules.specs.Problem.{Problem}
-use Rattle.problem_rules.specs.Validity.{IsValid}
-use Rattle.pns_rules.specs.Nodes.{Node}
+use Rattle.flow_rules.proofs.integer_laws.Cited.{V, ◌⊗◌, ring, mul_comm_z, pos_of-mul, cancel}
+use Rattle.flow_rules.specs.problem_rules.Problem.{Problem}
+use Rattle.flow_rules.specs.problem_rules.Validity.{IsValid}
+use Rattle.flow_rules.specs.pns_rules.Nodes.{Node}
 use Rattle.flow_rules.specs.Net.{Net, net_of, beside}
 use Rattle.flow_rules.specs.Relaxed as node
 use Rattle.flow_rules.specs.Relaxed.{IsRelaxed, units, rows}
-use Rattle.flow_rules.proofs.NetLemmas.{net_of_valid}
-use Rattle.flow_rules.proofs.DualityLemmas.{relaxed_duality}
+use Rattle.flow_rules.proofs.Cited.{net_of_valid, relaxed_duality}
 use Rattle.flow_rules.specs.LinearProgram.{LinearProgram, linear}
 use Rattle.flow_rules.specs.Columns.{Basis, Has, x_at, columns, scale_at}
 use Rattle.flow_rules.specs.Multipliers.{multiplier}

@@ -8,19 +8,18 @@ use Rattle.std.specs.Int.{int_min}
 use Rattle.std.proofs.lemmas.Int.{ints}
 use Rattle.std.proofs.lemmas.Bool.{lt-ltb}
 use Rattle.std.proofs.lemmas.List.FromFn.{get_or-map-range_with_len}
-use Rattle.integer_laws.specs.Total.{total, total_below}
-use Rattle.integer_laws.proofs.Ring.{mul_comm_z}
-use Rattle.integer_laws.proofs.IndexTotals.{total_below-same}
-use Rattle.integer_laws.proofs.Order.{mul-le_left}
-use Rattle.number_sets.specs.Sets.{has}
-use Rattle.number_sets.proofs.SetLemmas.{has-listed, IsRising-listed, has_below, AreBelow-listed}
-use Rattle.pns_rules.specs.Structure.{mats}
-use Rattle.pns_rules.specs.Nodes.{Node}
+use Rattle.flow_rules.specs.integer_laws.Total.{total, total_below}
+use Rattle.flow_rules.proofs.integer_laws.Cited.{mul_comm_z, total_below-same, mul-le_left}
+use Rattle.flow_rules.specs.number_sets.Sets.{has}
+use Rattle.flow_rules.proofs.number_sets.Cited.{has-listed, IsRising-listed, has_below}
+use Rattle.flow_rules.proofs.number_sets.Cited.{AreBelow-listed}
+use Rattle.flow_rules.specs.pns_rules.Structure.{mats}
+use Rattle.flow_rules.specs.pns_rules.Nodes.{Node}
 use Rattle.flow_rules.specs.Net.{Net, million, beside}
 use Rattle.flow_rules.specs.Relaxed as node
 use Rattle.flow_rules.specs.Relaxed.{IsRelaxed, stays, units, rows, lower_at, row_low, row_high}
 use Rattle.flow_rules.specs.Relaxed.{unit_low, unit_cost, fixed_cost, row_balance, reduced_cost}
-use Rattle.flow_rules.proofs.NetLemmas.{IsNet}
+use Rattle.flow_rules.proofs.Cited.{IsNet}
 use Rattle.flow_rules.specs.LinearProgram.{linear}
 use Rattle.path_laws.proofs.Relaxed.{flow, IsRelaxedFlow, relaxed_cost, left_over, row_part}
 use Rattle.path_laws.proofs.Relaxed.{unit_part, bound, IsOpen}

@@ -5,7 +5,7 @@ use Rattle.std.proofs.Common.{false, arith, refl, ap, sym, ◌∙◌, subst}
 use Rattle.std.specs.Prelude.{ℤ, pos, negsuc, ◌-ℤ◌, ◌*ℤ◌, neg_ℤ, ◌<ℤ◌, ◌≤ℤ◌}
 use Rattle.std.proofs.lemmas.Int.{ints}
 use Rattle.std.proofs.lemmas.Bool.Decides.{eqb_tells, leb_tells}
-use Rattle.integer_laws.proofs.Ring.{V, ◌⊖◌, ◌⊗◌, Neg, ring}
+use Rattle.flow_rules.proofs.integer_laws.Cited.{V, ◌⊖◌, ◌⊗◌, Neg, ring, one-mul_z}
 use Rattle.path_laws.proofs.VectorLemmas.{gain-basic, gain-other, gain-own}
 use Rattle.flow_rules.specs.Columns.{start, Basis, Has, x_at, s_at, t_at, w_at, columns, scale_at}
 use Rattle.flow_rules.specs.Lexicographic.{IsRising}
@@ -14,7 +14,6 @@ use Rattle.flow_rules.specs.Pivots.{IsFirstKind, IsCombined, IsPivoted}
 use Rattle.flow_rules.specs.Start.{one_at}
 use Rattle.flow_rules.specs.Start.{IsStart}
 use Rattle.flow_rules.specs.Tableau.{IsTableau, IsPrimitive}
-use Rattle.integer_laws.proofs.Ring.{one-mul_z}
 use Rattle.path_laws.proofs.StartBasisLemmas.{start-has}
 use Rattle.path_laws.proofs.UniqueLemmas.{same_factor}
 use Rattle.path_laws.specs.Phases.{IsBoxRow, IsIn, IsOut, IsFirstPhase}

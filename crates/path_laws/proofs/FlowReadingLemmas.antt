@@ -8,9 +8,8 @@ use Rattle.std.proofs.lemmas.Int.{ints}
 use Rattle.std.proofs.lemmas.Bool.Decides.{eqb_tells}
 use Rattle.std.proofs.lemmas.Nat.Gcd.{dvd_trans, dvd_refl}
 use Rattle.std.proofs.Math.Nat.{dvd-mul_right, dvd-mul_left, eq-zero_of_zero-dvd}
-use Rattle.exact_numbers.proofs.Division.{quotient_exact}
-use Rattle.integer_laws.proofs.Ring.{V, ◌⊕◌, ◌⊗◌, ring, mul_comm_z}
-use Rattle.integer_laws.proofs.Order.{pos_of-mul}
+use Rattle.exact_numbers.proofs.Cited.{quotient_exact}
+use Rattle.flow_rules.proofs.integer_laws.Cited.{V, ◌⊕◌, ◌⊗◌, ring, mul_comm_z, pos_of-mul}
 use Rattle.flow_rules.specs.LinearProgram.{LinearProgram}
 use Rattle.flow_rules.specs.Columns.{Basis, x_at, right_at, scale_at}
 use Rattle.flow_rules.specs.ReadFlows.{AreValues, size}

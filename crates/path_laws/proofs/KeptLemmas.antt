@@ -5,8 +5,9 @@ use Rattle.std.specs.Prelude.{unsigned_abs}
 use Rattle.std.proofs.lemmas.Int.{ints}
 use Rattle.std.proofs.lemmas.Bool.Decides.{eqb_tells}
 use Rattle.std.specs.Int.{◌∣◌}
-use Rattle.integer_laws.proofs.Order.{mul_pos, zero_of-mul, pos_of-mul}
-use Rattle.integer_laws.proofs.Ring.{V, ◌⊖◌, ◌⊗◌, ring, mul-zero_z}
+use Rattle.flow_rules.proofs.integer_laws.Cited.{mul_pos, zero_of-mul, pos_of-mul, V, ◌⊖◌, ◌⊗◌}
+use Rattle.flow_rules.proofs.integer_laws.Cited.{ring}
+use Rattle.flow_rules.proofs.integer_laws.Cited.{mul-zero_z}
 use Rattle.flow_rules.specs.Columns.{Basis, Has, scale_at}
 use Rattle.flow_rules.specs.Equations.{IsCombination}
 use Rattle.flow_rules.specs.LinearProgram.{LinearProgram}

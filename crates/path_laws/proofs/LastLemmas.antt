@@ -4,7 +4,7 @@ use Rattle.std.specs.Prelude.{ℤ, pos, ◌≤ℤ◌, ◌<ℤ◌}
 use Rattle.std.proofs.Math.Path.{fun_ext}
 use Rattle.std.proofs.lemmas.Bool.{cases_order}
 use Rattle.std.proofs.lemmas.Bool.Decides.{eqb_tells}
-use Rattle.integer_laws.specs.declared.which.Which.{Which}
+use Rattle.flow_rules.specs.integer_laws.declared.which.Which.{Which}
 use Rattle.flow_rules.specs.LinearProgram.{LinearProgram}
 use Rattle.flow_rules.specs.Columns.{Basis, right_at, scale_at}
 use Rattle.flow_rules.specs.Tableau.{IsTableau}

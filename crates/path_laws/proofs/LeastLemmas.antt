@@ -4,8 +4,9 @@ use Rattle.std.proofs.Common.{◌≡◌, ◌≢◌, ℕ, suc, ◌<◌, inl, inr,
 use Rattle.std.specs.Prelude.{ℤ, pos, ◌-ℤ◌, ◌*ℤ◌, ◌<ℤ◌}
 use Rattle.std.proofs.lemmas.Int.{ints}
 use Rattle.std.proofs.lemmas.Bool.{cases_order}
-use Rattle.integer_laws.proofs.Order.{mul_pos, cancel, pos_of-mul}
-use Rattle.integer_laws.proofs.Ring.{V, ◌⊖◌, ◌⊗◌, ring, ring_lt, read_equal, read_lt}
+use Rattle.flow_rules.proofs.integer_laws.Cited.{mul_pos, cancel, pos_of-mul, V, ◌⊖◌, ◌⊗◌, ring}
+use Rattle.flow_rules.proofs.integer_laws.Cited.{ring_lt}
+use Rattle.flow_rules.proofs.integer_laws.Cited.{read_equal, read_lt}
 use Rattle.path_laws.proofs.VectorLemmas.{gain-own, gain-other}
 use Rattle.flow_rules.specs.Columns.{Basis}
 use Rattle.flow_rules.specs.Lexicographic.{IsBefore}

@@ -3,9 +3,8 @@ use Rattle.std.proofs.Common.{◌≡◌, ℕ, ◌<◌, ◌≤◌, inl, inr, arit
 use Rattle.std.specs.Prelude.{ℤ, pos, ◌+ℤ◌, ◌-ℤ◌, ◌*ℤ◌, ◌<ℤ◌, ◌≤ℤ◌}
 use Rattle.std.proofs.lemmas.Int.{ints}
 use Rattle.path_laws.proofs.RowBoundLemmas.{bound_of_row, IsNonNegative}
-use Rattle.integer_laws.proofs.Order.{mul_nonneg}
-use Rattle.integer_laws.proofs.Ring.{V, ◌⊖◌, ◌⊗◌, ring, read_equal, read_le}
-use Rattle.integer_laws.specs.Total.{total_below}
+use Rattle.flow_rules.proofs.integer_laws.Cited.{mul_nonneg, V, ◌⊖◌, ◌⊗◌, ring, read_equal, read_le}
+use Rattle.flow_rules.specs.integer_laws.Total.{total_below}
 use Rattle.flow_rules.specs.Columns.{Basis, Has, x_at, right_at, scale_at, columns}
 use Rattle.flow_rules.specs.Equations.{IsSolution, IsCombination}
 use Rattle.flow_rules.specs.LinearProgram.{LinearProgram}

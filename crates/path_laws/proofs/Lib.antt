@@ -1,4 +1,5 @@
 pub mod BoolLemmas
+pub mod Cited
 pub mod CombinationLemmas
 pub mod KeptLemmas
 pub mod SolutionLemmas

@@ -4,8 +4,8 @@ use Rattle.std.specs.Prelude.{ℤ, pos, ◌*ℤ◌, ◌<ℤ◌, ◌≤ℤ◌, ma
 use Rattle.std.proofs.lemmas.Int.{ints}
 use Rattle.std.proofs.lemmas.List.{get_or-map}
 use Rattle.std.proofs.lemmas.List.FromFn.{length-map-range_with_len}
-use Rattle.integer_laws.specs.Reduced.{scaled}
-use Rattle.pns_rules.specs.Nodes.{Node}
+use Rattle.flow_rules.specs.integer_laws.Reduced.{scaled}
+use Rattle.flow_rules.specs.pns_rules.Nodes.{Node}
 use Rattle.flow_rules.specs.Net.{Net, beside}
 use Rattle.flow_rules.specs.Relaxed as node
 use Rattle.flow_rules.specs.Relaxed.{rows}

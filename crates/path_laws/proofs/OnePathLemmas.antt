@@ -16,9 +16,9 @@ use Rattle.flow_rules.specs.Vectors.{gain}
 use Rattle.path_laws.proofs.BoolLemmas.{bool_cases}
 use Rattle.path_laws.proofs.UniqueLemmas.{row_unique}
 use Rattle.flow_rules.specs.Places.{IsPastPivot, at_first, at_second}
-use Rattle.integer_laws.specs.declared.which.Which.{Which}
-use Rattle.integer_laws.specs.Combined.{past_of}
-use Rattle.integer_laws.specs.Lowest.{IsLowest}
+use Rattle.flow_rules.specs.integer_laws.declared.which.Which.{Which}
+use Rattle.flow_rules.specs.integer_laws.Combined.{past_of}
+use Rattle.flow_rules.specs.integer_laws.Lowest.{IsLowest}
 
 -- two tableaux of one basis
 abbrev pub Agree : LinearProgram → Basis → (ℕ → ℕ → ℤ) → (ℕ → ℕ → ℤ) → Type 0

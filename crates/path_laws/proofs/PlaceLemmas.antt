@@ -6,9 +6,9 @@ use Rattle.std.proofs.Common.{length}
 use Rattle.std.specs.Prelude.{map, ◌==◌, ◌||◌}
 use Rattle.std.proofs.lemmas.List.{get_or-map, get_or-append-add, get_or_append_left}
 use Rattle.std.proofs.lemmas.Bool.Decides.{eqb_tells}
-use Rattle.integer_laws.specs.Total.{total, total_below}
-use Rattle.integer_laws.proofs.IndexTotals.{total_below-first}
-use Rattle.number_sets.specs.Sets.{has, IsBelowAll, IsRising}
+use Rattle.flow_rules.specs.integer_laws.Total.{total, total_below}
+use Rattle.flow_rules.proofs.integer_laws.Cited.{total_below-first}
+use Rattle.flow_rules.specs.number_sets.Sets.{has, IsBelowAll, IsRising}
 use Rattle.flow_rules.specs.Net.{Net, beside}
 use Rattle.flow_rules.specs.Program.{rates_over}
 

@@ -5,8 +5,8 @@ use Rattle.std.specs.Prelude.{ℤ, pos, ◌+ℤ◌, ◌-ℤ◌, ◌*ℤ◌, unsi
 use Rattle.std.proofs.lemmas.Int.{ints, unsigned_abs-mul}
 use Rattle.std.proofs.lemmas.List.Elements.{All-get_or}
 use Rattle.std.proofs.Math.Nat.{mul-le-mul}
-use Rattle.integer_laws.specs.Total.{total_below}
-use Rattle.number_sets.proofs.SetLemmas.{length_below}
+use Rattle.flow_rules.specs.integer_laws.Total.{total_below}
+use Rattle.flow_rules.proofs.number_sets.Cited.{length_below}
 use Rattle.flow_rules.specs.Program.{Program, IsWithin, AreRanges, IsProgram}
 use Rattle.flow_rules.specs.LinearProgram.{linear_of, low_flow}
 use Rattle.path_laws.specs.RangeLaws.{AreWithin, most, ProgramFits}

@@ -3,10 +3,10 @@ use Rattle.std.proofs.Common.{◌≡◌, ℕ, zero, suc, ◌<◌, ◌⊎◌, inl
 use Rattle.std.specs.Prelude.{ℤ, pos, negsuc, ◌+ℤ◌, ◌-ℤ◌, ◌*ℤ◌, ◌<ℤ◌, ◌≤ℤ◌}
 use Rattle.std.specs.Int.{int_min}
 use Rattle.std.proofs.lemmas.Int.{ints, clamps, by_lt_z}
-use Rattle.integer_laws.proofs.IndexTotals.{total_below-same, total_below-mul}
-use Rattle.integer_laws.proofs.Order.{mul_nonneg, mul-le_left}
-use Rattle.integer_laws.proofs.Ring.{V, ◌⊕◌, ◌⊖◌, ◌⊗◌, ring, ring_le, read_equal, read_le}
-use Rattle.integer_laws.specs.Total.{total_below}
+use Rattle.flow_rules.proofs.integer_laws.Cited.{total_below-same, total_below-mul, mul_nonneg}
+use Rattle.flow_rules.proofs.integer_laws.Cited.{mul-le_left, V}
+use Rattle.flow_rules.proofs.integer_laws.Cited.{◌⊕◌, ◌⊖◌, ◌⊗◌, ring, ring_le, read_equal, read_le}
+use Rattle.flow_rules.specs.integer_laws.Total.{total_below}
 use Rattle.flow_rules.specs.LinearProgram.{LinearProgram}
 use Rattle.path_laws.proofs.Relaxed.{flow, relaxed_cost, bound, left_over, IsRelaxedFlow}
 

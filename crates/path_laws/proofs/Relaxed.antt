@@ -1,7 +1,7 @@
 -- The relaxed flow program, its cost and its bounds, over units and rows that are numbered from 0.
 use Rattle.std.specs.Prelude.{ℕ, ◌<◌, ℤ, pos, ◌+ℤ◌, ◌-ℤ◌, ◌*ℤ◌, ◌<ℤ◌, ◌≤ℤ◌}
 use Rattle.std.specs.Int.{int_min}
-use Rattle.integer_laws.specs.Total.{total_below}
+use Rattle.flow_rules.specs.integer_laws.Total.{total_below}
 use Rattle.flow_rules.specs.LinearProgram.{LinearProgram}
 
 -- the flow of row j at the sizes Z

@@ -3,8 +3,7 @@ use Rattle.std.proofs.Common.{◌≡◌, ℕ, zero, suc, ◌<◌, inl, inr, arit
 use Rattle.std.specs.Prelude.{ℤ, pos, negsuc, ◌+ℤ◌, ◌-ℤ◌, ◌*ℤ◌, ◌<ℤ◌, ◌≤ℤ◌}
 use Rattle.std.proofs.lemmas.Int.{ints}
 use Rattle.std.proofs.lemmas.Bool.{cases_order}
-use Rattle.integer_laws.proofs.Order.{mul_pos, zero_of-mul, pos_of-mul}
-use Rattle.integer_laws.proofs.Ring.{mul-zero_z}
+use Rattle.flow_rules.proofs.integer_laws.Cited.{mul_pos, zero_of-mul, pos_of-mul, mul-zero_z}
 use Rattle.flow_rules.specs.Lexicographic.{IsBefore, IsRising}
 
 -- each number of g has a positive multiple in f

@@ -4,12 +4,12 @@ use Rattle.std.proofs.Common.{◌≡◌, ℕ, ◌<◌, arith, ap, sym, ◌∙◌
 use Rattle.std.specs.Prelude.{ℤ, pos, ◌+ℤ◌, ◌-ℤ◌, ◌*ℤ◌, ◌<ℤ◌, ◌≤ℤ◌}
 use Rattle.std.specs.Int.{int_min}
 use Rattle.std.proofs.lemmas.Int.{ints}
-use Rattle.integer_laws.proofs.Ring.{V, ◌⊕◌, ◌⊖◌, ◌⊗◌, ring}
-use Rattle.integer_laws.proofs.Boxes.{box_ends-least}
-use Rattle.integer_laws.proofs.IndexTotals.{total_below-same, total_below-add, total_below-mul}
-use Rattle.integer_laws.proofs.IndexTotals.{total_below-zero, total_below-exchange, total_below-le}
+use Rattle.flow_rules.proofs.integer_laws.Cited.{V, ◌⊕◌, ◌⊖◌, ◌⊗◌, ring, box_ends-least}
+use Rattle.flow_rules.proofs.integer_laws.Cited.{total_below-same}
+use Rattle.flow_rules.proofs.integer_laws.Cited.{total_below-add, total_below-mul, total_below-zero}
+use Rattle.flow_rules.proofs.integer_laws.Cited.{total_below-exchange, total_below-le}
 use Rattle.flow_rules.specs.Multipliers.{multiplier}
-use Rattle.integer_laws.specs.Total.{total_below}
+use Rattle.flow_rules.specs.integer_laws.Total.{total_below}
 use Rattle.flow_rules.specs.Columns.{x_at, s_at, t_at, w_at, right_at, scale_at, columns}
 use Rattle.flow_rules.specs.Equations.{IsCombination}
 use Rattle.flow_rules.specs.LinearProgram.{LinearProgram}

@@ -7,10 +7,9 @@ use Rattle.std.specs.Int.{◌∣◌}
 use Rattle.std.proofs.lemmas.Int.{ints, unsigned_abs-mul}
 use Rattle.std.proofs.Math.Nat.{dvd_of_mul-dvd-mul_left, mul-dvd-mul_left, eq-one_of_dvd-one}
 use Rattle.std.proofs.Math.Nat.{eq-zero_of_zero-dvd}
-use Rattle.integer_laws.proofs.Ring.{V, ◌⊖◌, ◌⊗◌, ring}
-use Rattle.integer_laws.proofs.Order.{mul_pos}
-use Rattle.integer_laws.specs.Combined as rows
-use Rattle.integer_laws.specs.Reduced.{IsReduced, scaled}
+use Rattle.flow_rules.proofs.integer_laws.Cited.{V, ◌⊖◌, ◌⊗◌, ring, mul_pos}
+use Rattle.flow_rules.specs.integer_laws.Combined as rows
+use Rattle.flow_rules.specs.integer_laws.Reduced.{IsReduced, scaled}
 use Rattle.path_laws.specs.RangeLaws.{entry, RowsAreCombined, RowsArePrimitive}
 
 combined_at : (p q : ℤ) (row pivot : List ℤ) (k : ℕ) → length row ≡ length pivot

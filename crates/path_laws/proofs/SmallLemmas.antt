@@ -9,11 +9,11 @@ use Rattle.std.proofs.Math.Path.{fun_ext}
 use Rattle.std.proofs.Math.Nat.{mul-le-mul}
 use Rattle.std.proofs.lemmas.Bool.{lt-ltb}
 use Rattle.std.proofs.lemmas.Bool.Decides.{eqb_tells, leb_tells}
-use Rattle.integer_laws.specs.Total.{total_below}
-use Rattle.integer_laws.proofs.Ring.{V, ◌⊖◌, ◌⊗◌, ring, one-mul_z}
-use Rattle.integer_laws.proofs.IndexTotals.{total_below-same, total_below-zero, total_below-single}
-use Rattle.integer_laws.specs.Combined.{past_of, is_in_range}
-use Rattle.integer_laws.specs.Lowest.{IsLowest}
+use Rattle.flow_rules.specs.integer_laws.Total.{total_below}
+use Rattle.flow_rules.proofs.integer_laws.Cited.{V, ◌⊖◌, ◌⊗◌, ring, one-mul_z, total_below-same}
+use Rattle.flow_rules.proofs.integer_laws.Cited.{total_below-zero, total_below-single}
+use Rattle.flow_rules.specs.integer_laws.Combined.{past_of, is_in_range}
+use Rattle.flow_rules.specs.integer_laws.Lowest.{IsLowest}
 use Rattle.flow_rules.specs.LinearProgram.{LinearProgram, low_flow}
 use Rattle.flow_rules.specs.Columns.{Basis, Has, x_at, s_at, t_at, w_at, columns, right_at}
 use Rattle.flow_rules.specs.Columns.{scale_at, start}

@@ -3,9 +3,9 @@ use Rattle.std.proofs.Common.{◌≡◌, ◌≢◌, ℕ, suc, ◌⊎◌, inl, in
 use Rattle.std.specs.Prelude.{ℤ, pos, ◌-ℤ◌, ◌*ℤ◌, neg_ℤ}
 use Rattle.std.proofs.lemmas.Int.{ints}
 use Rattle.std.proofs.lemmas.Bool.Decides.{eqb_tells}
-use Rattle.integer_laws.proofs.IndexTotals.{total_below-same}
-use Rattle.integer_laws.proofs.Order.{zero_of-mul}
-use Rattle.integer_laws.proofs.Ring.{V, ◌⊖◌, ◌⊗◌, Neg, ring, read_equal}
+use Rattle.flow_rules.proofs.integer_laws.Cited.{total_below-same, zero_of-mul, V, ◌⊖◌, ◌⊗◌, Neg}
+use Rattle.flow_rules.proofs.integer_laws.Cited.{ring}
+use Rattle.flow_rules.proofs.integer_laws.Cited.{read_equal}
 use Rattle.flow_rules.specs.Columns.{Basis, Has, scale_at}
 use Rattle.flow_rules.specs.Equations.{dot}
 use Rattle.flow_rules.specs.LinearProgram.{LinearProgram}

@@ -2,9 +2,10 @@
 use Rattle.std.proofs.Common.{◌≡◌, ℕ, zero, suc, ◌<◌, arith, ap, sym, ◌∙◌, subst}
 use Rattle.std.specs.Prelude.{ℤ, pos, ◌+ℤ◌, ◌-ℤ◌, ◌*ℤ◌, neg_ℤ, ◌<ℤ◌, ◌≤ℤ◌}
 use Rattle.std.proofs.lemmas.Int.{ints}
-use Rattle.integer_laws.proofs.IndexTotals.{total_below-same, total_below-add, total_below-mul}
-use Rattle.integer_laws.proofs.Ring.{V, ◌⊕◌, ◌⊖◌, ◌⊗◌, Neg, ring, ring_le, read_equal, read_le}
-use Rattle.integer_laws.specs.Total.{total_below}
+use Rattle.flow_rules.proofs.integer_laws.Cited.{total_below-same, total_below-add, total_below-mul}
+use Rattle.flow_rules.proofs.integer_laws.Cited.{V, ◌⊕◌}
+use Rattle.flow_rules.proofs.integer_laws.Cited.{◌⊖◌, ◌⊗◌, Neg, ring, ring_le, read_equal, read_le}
+use Rattle.flow_rules.specs.integer_laws.Total.{total_below}
 use Rattle.flow_rules.specs.Columns.{x_at, s_at, t_at, w_at, scale_at, columns}
 use Rattle.flow_rules.specs.Equations.{IsSolution}
 use Rattle.flow_rules.specs.LinearProgram.{LinearProgram}

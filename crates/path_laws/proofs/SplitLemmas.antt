@@ -4,19 +4,19 @@ use Rattle.std.proofs.Common.{◌≡◌, ℕ, zero, suc, ◌<◌, arith, refl, a
 use Rattle.std.proofs.Common.{◌+ℤ◌, ◌*ℤ◌, ◌≤ℤ◌, List, Bool, true, false, cond}
 use Rattle.std.specs.Prelude.{not, ◌&&◌, ◌||◌, nat_lt}
 use Rattle.std.proofs.lemmas.Int.{ints}
-use Rattle.integer_laws.specs.Total.{total}
-use Rattle.integer_laws.proofs.Ring.{V, ◌⊗◌, ring}
-use Rattle.integer_laws.proofs.Totals.{total-add, total-agree, total-mul_right}
-use Rattle.number_sets.specs.Sets.{any_below}
-use Rattle.number_sets.proofs.SetLemmas.{has-listed, listed-same}
-use Rattle.pns_rules.specs.Structure.{mats}
-use Rattle.pns_rules.specs.Nodes.{Node}
+use Rattle.flow_rules.specs.integer_laws.Total.{total}
+use Rattle.flow_rules.proofs.integer_laws.Cited.{V, ◌⊗◌, ring, total-add, total-agree}
+use Rattle.flow_rules.proofs.integer_laws.Cited.{total-mul_right}
+use Rattle.flow_rules.specs.number_sets.Sets.{any_below}
+use Rattle.flow_rules.proofs.number_sets.Cited.{has-listed, listed-same}
+use Rattle.flow_rules.specs.pns_rules.Structure.{mats}
+use Rattle.flow_rules.specs.pns_rules.Nodes.{Node}
 use Rattle.flow_rules.specs.Net.{Net, net_of, beside, trillion, size_cost, units_of, low_end}
 use Rattle.flow_rules.specs.Net.{high_end}
 use Rattle.flow_rules.specs.Flows.{IsFlows, balance, cost}
 use Rattle.flow_rules.specs.Relaxed.{IsRelaxed, stays, units, unit_cost, lower_at, slope}
 use Rattle.flow_rules.specs.Relaxed.{fixed_cost, row_balance, relaxed_cost}
-use Rattle.flow_rules.proofs.ListedLemmas.{All-listed}
+use Rattle.flow_rules.proofs.Cited.{All-listed}
 use Rattle.path_laws.specs.Ends.{IsSplit}
 use Rattle.path_laws.specs.EndLaws.{RelaxedAreFlows, RelaxedCostIsCost}
 use Rattle.path_laws.proofs.PlaceLemmas.{beside_none}

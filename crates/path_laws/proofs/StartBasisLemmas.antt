@@ -3,9 +3,9 @@ use Rattle.std.proofs.Common.{◌≡◌, ◌≢◌, ℕ, suc, ◌<◌, ◌≤◌
 use Rattle.std.specs.Prelude.{ℤ, pos, ◌+ℤ◌, ◌-ℤ◌, ◌*ℤ◌}
 use Rattle.std.proofs.lemmas.Int.{ints}
 use Rattle.std.proofs.lemmas.Bool.Decides.{eqb_tells, leb_tells}
-use Rattle.integer_laws.specs.Total.{total_below}
-use Rattle.integer_laws.proofs.Ring.{V, ◌⊖◌, ◌⊗◌, ring}
-use Rattle.integer_laws.proofs.IndexTotals.{total_below-same, total_below-zero}
+use Rattle.flow_rules.specs.integer_laws.Total.{total_below}
+use Rattle.flow_rules.proofs.integer_laws.Cited.{V, ◌⊖◌, ◌⊗◌, ring, total_below-same}
+use Rattle.flow_rules.proofs.integer_laws.Cited.{total_below-zero}
 use Rattle.flow_rules.specs.LinearProgram.{LinearProgram}
 use Rattle.flow_rules.specs.Columns.{s_at, t_at, w_at, right_at, scale_at, start}
 use Rattle.flow_rules.specs.Tableau.{IsIndependent}

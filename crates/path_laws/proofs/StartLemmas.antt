@@ -7,9 +7,10 @@ use Rattle.std.proofs.lemmas.Int.{ints}
 use Rattle.std.proofs.lemmas.Bool.Decides.{eqb_tells, leb_tells}
 use Rattle.std.specs.Int.{◌∣◌}
 use Rattle.std.proofs.Math.Nat.{eq-one_of_dvd-one, add-zero, add-suc}
-use Rattle.integer_laws.proofs.IndexTotals.{total_below-same, total_below-zero, total_below-single}
-use Rattle.integer_laws.proofs.Ring.{V, ◌⊕◌, ◌⊖◌, ◌⊗◌, Neg, ring, read_equal}
-use Rattle.integer_laws.specs.Total.{total_below}
+use Rattle.flow_rules.proofs.integer_laws.Cited.{total_below-same, total_below-zero}
+use Rattle.flow_rules.proofs.integer_laws.Cited.{total_below-single, V}
+use Rattle.flow_rules.proofs.integer_laws.Cited.{◌⊕◌, ◌⊖◌, ◌⊗◌, Neg, ring, read_equal}
+use Rattle.flow_rules.specs.integer_laws.Total.{total_below}
 use Rattle.flow_rules.specs.Columns.{start, Has, x_at, s_at, t_at, w_at, columns, right_at}
 use Rattle.flow_rules.specs.Columns.{scale_at}
 use Rattle.flow_rules.specs.Equations.{IsCombination, dot}

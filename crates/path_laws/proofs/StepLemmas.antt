@@ -7,9 +7,8 @@ use Rattle.std.specs.Int.{◌∣◌}
 use Rattle.std.proofs.lemmas.Int.{ints, unsigned_abs-mul}
 use Rattle.std.proofs.lemmas.Bool.Decides.{eqb_tells, leb_tells}
 use Rattle.std.proofs.Math.Nat.{dvd-mul_right}
-use Rattle.integer_laws.proofs.Ring.{V, ◌⊖◌, ◌⊗◌, ring}
-use Rattle.integer_laws.proofs.Order.{mul_pos, pos_of-mul, cancel}
-use Rattle.exact_numbers.proofs.Division.{quotient_exact}
+use Rattle.flow_rules.proofs.integer_laws.Cited.{V, ◌⊖◌, ◌⊗◌, ring, mul_pos, pos_of-mul, cancel}
+use Rattle.exact_numbers.proofs.Cited.{quotient_exact}
 use Rattle.flow_rules.specs.LinearProgram.{LinearProgram}
 use Rattle.flow_rules.specs.Columns.{Basis, Has, scale_at, exchanged}
 use Rattle.flow_rules.specs.Equations.{IsCombination}

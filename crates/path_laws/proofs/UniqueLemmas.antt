@@ -9,8 +9,7 @@ use Rattle.std.proofs.lemmas.Bool.{cases_order}
 use Rattle.std.proofs.lemmas.Bool.Decides.{eqb_tells}
 use Rattle.std.proofs.Math.Nat.{dvd_refl, dvd-add, dvd-sub, dvd_antisymm, dvd-mul_right}
 use Rattle.std.proofs.Math.Nat.{dvd_of_mul-dvd-mul_left, mul-div_cancel'}
-use Rattle.integer_laws.proofs.Order.{cancel}
-use Rattle.integer_laws.proofs.Ring.{V, ◌⊖◌, ◌⊗◌, ring}
+use Rattle.flow_rules.proofs.integer_laws.Cited.{cancel, V, ◌⊖◌, ◌⊗◌, ring}
 use Rattle.flow_rules.specs.Columns.{Basis, Has, scale_at}
 use Rattle.flow_rules.specs.LinearProgram.{LinearProgram}
 use Rattle.flow_rules.specs.Tableau.{IsRowOf, IsPrimitive, IsIndependent}

@@ -6,8 +6,9 @@ use Rattle.std.specs.Prelude.{unsigned_abs}
 use Rattle.std.proofs.lemmas.Int.{ints}
 use Rattle.std.proofs.lemmas.Bool.Decides.{eqb_tells}
 use Rattle.std.proofs.Math.Nat.{div-le_of_le-mul, mul-le-mul}
-use Rattle.integer_laws.proofs.Order.{mul_pos}
-use Rattle.integer_laws.proofs.Ring.{V, ◌⊕◌, ◌⊖◌, ◌⊗◌, Neg, ring, read_equal, read_lt, read_le}
+use Rattle.flow_rules.proofs.integer_laws.Cited.{mul_pos, V, ◌⊕◌, ◌⊖◌, ◌⊗◌, Neg, ring, read_equal}
+use Rattle.flow_rules.proofs.integer_laws.Cited.{read_lt}
+use Rattle.flow_rules.proofs.integer_laws.Cited.{read_le}
 use Rattle.path_laws.proofs.RankLemmas.{number_less, digit_same, digit_less}
 use Rattle.path_laws.proofs.RisingLemmas.{rising_scaled₂}
 use Rattle.path_laws.proofs.VectorLemmas.{gain-basic, gain-other, gain-own, IsNegated, one_pos}

@@ -4,8 +4,9 @@ use Rattle.std.proofs.Common.{sym, ◌∙◌, subst}
 use Rattle.std.specs.Prelude.{ℤ, pos, ◌+ℤ◌, ◌-ℤ◌, ◌*ℤ◌, neg_ℤ, ◌<ℤ◌}
 use Rattle.std.proofs.lemmas.Int.{ints}
 use Rattle.std.proofs.lemmas.Bool.Decides.{eqb_tells}
-use Rattle.integer_laws.proofs.Order.{mul_pos, sign_cases}
-use Rattle.integer_laws.proofs.Ring.{V, ◌⊕◌, ◌⊖◌, ◌⊗◌, Neg, ring, read_equal, mul-zero_z}
+use Rattle.flow_rules.proofs.integer_laws.Cited.{mul_pos, sign_cases, V, ◌⊕◌, ◌⊖◌, ◌⊗◌, Neg, ring}
+use Rattle.flow_rules.proofs.integer_laws.Cited.{read_equal}
+use Rattle.flow_rules.proofs.integer_laws.Cited.{mul-zero_z}
 use Rattle.path_laws.proofs.BoolLemmas.{bool_cases}
 use Rattle.path_laws.proofs.RisingLemmas.{rising_scaled, rising_sum₀, rising_times, rising_of}
 use Rattle.flow_rules.specs.Columns.{Basis, Has}

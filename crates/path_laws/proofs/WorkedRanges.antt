@@ -6,8 +6,8 @@ use Rattle.std.proofs.Common.{subst, [], ◌∷◌}
 use Rattle.std.specs.Prelude.{ℤ, pos, ◌-ℤ◌, ◌*ℤ◌, neg_ℤ, ◌<ℤ◌, ◌≤ℤ◌, None}
 use Rattle.std.proofs.lemmas.Int.{ints}
 use Rattle.std.proofs.Math.Nat.{eq-one_of_dvd-one}
-use Rattle.integer_laws.proofs.Ring.{one-mul_z}
-use Rattle.integer_laws.specs.Combined.{past_of}
+use Rattle.flow_rules.proofs.integer_laws.Cited.{one-mul_z}
+use Rattle.flow_rules.specs.integer_laws.Combined.{past_of}
 use Rattle.flow_rules.specs.LinearProgram.{LinearProgram}
 use Rattle.flow_rules.specs.Columns.{Basis, Has, start, exchanged}
 use Rattle.flow_rules.specs.Tableau.{IsTableau, IsPrimitive}

@@ -1,9 +1,9 @@
 -- Laws of what is read off at the end of a path, each the contract of a public function of this
 -- crate. Costs and bounds over different denominators are compared by cross products.
 use Rattle.std.specs.Prelude.{◌≡◌, ℕ, ℤ, pos, ◌*ℤ◌, ◌≤ℤ◌, List}
-use Rattle.problem_rules.specs.Problem.{Problem}
-use Rattle.problem_rules.specs.Validity.{IsValid}
-use Rattle.pns_rules.specs.Nodes.{Node}
+use Rattle.flow_rules.specs.problem_rules.Problem.{Problem}
+use Rattle.flow_rules.specs.problem_rules.Validity.{IsValid}
+use Rattle.flow_rules.specs.pns_rules.Nodes.{Node}
 use Rattle.flow_rules.specs.Net.{net_of, beside}
 use Rattle.flow_rules.specs.Flows.{IsFlows, cost}
 use Rattle.flow_rules.specs.Relaxed.{IsRelaxed, relaxed_cost, bound, Refutes, units, rows}

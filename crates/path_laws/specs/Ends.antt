@@ -1,6 +1,6 @@
 -- The tableau of a basis of the path of a node's program, and what is read off it.
 use Rattle.std.specs.Prelude.{◌≡◌, ℕ, ◌<◌, not, ℤ, List}
-use Rattle.pns_rules.specs.Nodes.{Node}
+use Rattle.flow_rules.specs.pns_rules.Nodes.{Node}
 use Rattle.flow_rules.specs.Net.{Net}
 use Rattle.flow_rules.specs.LinearProgram.{linear}
 use Rattle.flow_rules.specs.Columns.{Basis, scale_at}

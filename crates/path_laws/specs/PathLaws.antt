@@ -1,7 +1,7 @@
 -- Laws of the path of a linear program with ranges, each the contract of a public function of this
 -- crate. T, T' and U are tableaux: rows, one for each column.
 use Rattle.std.specs.Prelude.{◌≡◌, ◌≢◌, ℕ, suc, ◌+◌, ◌<◌, ◌≤◌, false, ℤ, pos, ◌*ℤ◌, ◌≤ℤ◌, ◌<ℤ◌}
-use Rattle.integer_laws.specs.declared.which.Which.{Which}
+use Rattle.flow_rules.specs.integer_laws.declared.which.Which.{Which}
 use Rattle.flow_rules.specs.LinearProgram.{LinearProgram}
 use Rattle.flow_rules.specs.Columns.{Basis, Has, x_at, s_at, columns, right_at, scale_at, start}
 use Rattle.flow_rules.specs.Tableau.{IsPrimitive, IsTableau}

@@ -1,7 +1,7 @@
 -- Laws of rows as lists of numbers in range, each the contract of a public function of this crate.
 use Rattle.std.specs.Prelude.{◌≡◌, ◌≢◌, ℕ, suc, ◌+◌, ◌*◌, ◌^◌, ◌<◌, ◌≤◌, ℤ, pos, ◌-ℤ◌, ◌<ℤ◌}
 use Rattle.std.specs.Prelude.{unsigned_abs, List, length, slice_index_or}
-use Rattle.integer_laws.specs.Combined as rows
+use Rattle.flow_rules.specs.integer_laws.Combined as rows
 use Rattle.flow_rules.specs.Program.{Program, IsProgram}
 use Rattle.flow_rules.specs.LinearProgram.{LinearProgram, linear_of, low_flow}
 use Rattle.flow_rules.specs.Columns.{Basis, Has, x_at, s_at, columns, right_at, scale_at}

@@ -5,8 +5,8 @@ use Rattle.std.proofs.Common.{append-nil}
 use Rattle.std.proofs.lemmas.Bool.{le-ltb, ne_eqb}
 use Rattle.std.proofs.lemmas.List.{map-append}
 use Rattle.std.proofs.Math.Nat.{mul-le-mul_left}
-use Rattle.number_sets.specs.Sets.{listed, with_number, AreBelow}
-use Rattle.number_sets.proofs.SetLemmas.{AreBelow-listed}
+use Rattle.plan_laws.specs.number_sets.Sets.{listed, with_number, AreBelow}
+use Rattle.plan_laws.proofs.number_sets.Cited.{AreBelow-listed}
 
 pushed : (n : ℕ) (xs : List ℕ) → AreBelow n xs → with_number n xs ≡ xs ++ n ∷ []
 pushed n [] below = refl

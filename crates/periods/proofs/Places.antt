@@ -4,8 +4,8 @@ use Rattle.std.proofs.Common.{None, List, [], ◌∷◌, length, refl, sym, ◌�
 use Rattle.std.specs.List.{list_any, position, position_or_len}
 use Rattle.std.specs.Str.{bytes_eq}
 use Rattle.std.proofs.lemmas.Bool.{cases_lt, lt-ltb, le-ltb}
-use Rattle.problem_rules.specs.Problem.{Problem, material_names}
-use Rattle.edit_rules.specs.Place.{has_material, material_place}
+use Rattle.plan_laws.specs.problem_rules.Problem.{Problem, material_names}
+use Rattle.plan_laws.specs.edit_rules.Place.{has_material, material_place}
 
 step_same : (a b : ℕ) → nat_lt (1 + a) (suc b) ≡ nat_lt a b
 step_same a b = elim (cases_lt a b) as (λ _. nat_lt (1 + a) (suc b) ≡ nat_lt a b) [

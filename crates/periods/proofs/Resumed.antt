@@ -6,12 +6,12 @@ use Rattle.std.specs.Prelude.{slice_set}
 use Rattle.std.proofs.lemmas.Bool.{or_left, or_right, ltb-true, lt-ltb, ne_eqb}
 use Rattle.std.proofs.lemmas.List.{length-set}
 use Rattle.std.proofs.Math.Nat.{mul-le-mul_left}
-use Rattle.problem_rules.specs.Problem.{Problem}
-use Rattle.plan_rules.specs.declared.PlanKind.TheVariants.{NoPeriod, TooWide}
-use Rattle.plan_rules.specs.Line.{Entry, begins, price, bounds}
-use Rattle.plan_rules.specs.Meaning.{count_fault, own_period, changed}
-use Rattle.plan_rules.specs.Plan.{Period, is_too_wide}
-use Rattle.plan_rules.specs.Read.{Fault, Line, is_begin}
+use Rattle.plan_laws.specs.problem_rules.Problem.{Problem}
+use Rattle.plan_laws.specs.plan_rules.declared.PlanKind.TheVariants.{NoPeriod, TooWide}
+use Rattle.plan_laws.specs.plan_rules.Line.{Entry, begins, price, bounds}
+use Rattle.plan_laws.specs.plan_rules.Meaning.{count_fault, own_period, changed}
+use Rattle.plan_laws.specs.plan_rules.Plan.{Period, is_too_wide}
+use Rattle.plan_laws.specs.plan_rules.Read.{Fault, Line, is_begin}
 use Rattle.periods.specs.Reading.{resumed, ended}
 
 -- ---- one line more

@@ -8,15 +8,17 @@ use Rattle.std.specs.Option.{option_or}
 use Rattle.std.specs.Vec.{with_item}
 use Rattle.std.proofs.lemmas.List.{length-set}
 use Rattle.std.proofs.lemmas.Bool.{le-ltb, ne_eqb}
-use Rattle.problem_rules.specs.Problem.{Problem}
-use Rattle.plan_rules.specs.declared.PlanKind.{PlanKind}
-use Rattle.plan_rules.specs.declared.PlanKind.TheVariants.{BadLine, DoubleLine, TooWide}
-use Rattle.plan_rules.specs.Line.{Entry, begins}
-use Rattle.plan_rules.specs.Meaning.{entry_fault, at_line, lines_fault, count_fault, own_period}
-use Rattle.plan_rules.specs.Meaning.{changed}
-use Rattle.plan_rules.specs.Plan.{Period, Plan, is_too_wide}
-use Rattle.plan_rules.specs.Read.{Fault, Line, Seen, is_begin, is_double, seen_after, placed}
-use Rattle.plan_rules.specs.Read.{with_line, lines_read}
+use Rattle.plan_laws.specs.problem_rules.Problem.{Problem}
+use Rattle.plan_laws.specs.plan_rules.declared.PlanKind.{PlanKind}
+use Rattle.plan_laws.specs.plan_rules.declared.PlanKind.TheVariants.{BadLine, DoubleLine, TooWide}
+use Rattle.plan_laws.specs.plan_rules.Line.{Entry, begins}
+use Rattle.plan_laws.specs.plan_rules.Meaning.{entry_fault, at_line, lines_fault, count_fault}
+use Rattle.plan_laws.specs.plan_rules.Meaning.{own_period}
+use Rattle.plan_laws.specs.plan_rules.Meaning.{changed}
+use Rattle.plan_laws.specs.plan_rules.Plan.{Period, Plan, is_too_wide}
+use Rattle.plan_laws.specs.plan_rules.Read.{Fault, Line, Seen, is_begin, is_double, seen_after}
+use Rattle.plan_laws.specs.plan_rules.Read.{placed}
+use Rattle.plan_laws.specs.plan_rules.Read.{with_line, lines_read}
 use Rattle.text_lines.specs.Lines.{Coming}
 use Rattle.periods.specs.declared.line.Change.{Change}
 use Rattle.periods.specs.declared.line.Change.TheVariants.{Price, Bounds}

@@ -6,29 +6,34 @@ use Rattle.std.proofs.Common.{pos, refl, sym, subst, ap, ◌∙◌, arith, if◌
 use Rattle.std.specs.Prelude.{int_lt, slice_index_or, slice_set}
 use Rattle.std.proofs.lemmas.Bool.{eqb-false}
 use Rattle.std.proofs.lemmas.List.{length-map, length-set}
-use Rattle.problem_rules.specs.Each.{Each}
-use Rattle.problem_rules.specs.Problem.{Problem, Material}
-use Rattle.problem_rules.specs.WellFormed.{IsInRange, AreBounds, IsWellFormedMaterial, IsWellFormed}
-use Rattle.edit_rules.specs.Formed.{AreSignedBounds}
-use Rattle.edit_rules.specs.Place.{has_material, material_place}
-use Rattle.edit_scripts.proofs.ReadIsFormed.{amount_formed, bounds_formed}
-use Rattle.edit_rules.specs.declared.EditKind.{EditKind}
-use Rattle.edit_rules.specs.Line.{tokens_of, script_lines}
-use Rattle.edit_rules.specs.Read.{amount_read, bounds_read}
-use Rattle.plan_rules.specs.declared.PlanKind.{PlanKind}
-use Rattle.plan_rules.specs.declared.PlanKind.TheVariants.{FileType, BadLine, DoubleLine}
-use Rattle.plan_rules.specs.declared.PlanKind.TheVariants.{UnknownName, LowAboveHigh, NoPeriod}
-use Rattle.plan_rules.specs.declared.PlanKind.TheVariants.{TooWide}
-use Rattle.plan_rules.specs.declared.PlanWord.{PlanWord}
-use Rattle.plan_rules.specs.declared.PlanWord.TheVariants as words
-use Rattle.plan_rules.specs.Line.{file_type, Entry, begins, price, bounds, entry_by, word_named}
-use Rattle.plan_rules.specs.Line.{worded_read, tokens_read, line_read}
-use Rattle.plan_rules.specs.Meaning.{entry_fault, at_line, lines_fault, period_count, or_behind}
-use Rattle.plan_rules.specs.Meaning.{own_period, changed, period_from, periods_of, judged}
-use Rattle.plan_rules.specs.Meaning.{lines_judged, read_plan}
-use Rattle.plan_rules.specs.Plan.{Period, Plan, IsPeriod, is_too_wide, IsPlan}
-use Rattle.plan_rules.specs.Read.{Fault, Line, Seen, is_begin, is_double, seen_past, nothing_seen}
-use Rattle.plan_rules.specs.Read.{placed, with_line, lines_read, text_read, read_lines}
+use Rattle.plan_laws.specs.problem_rules.Each.{Each}
+use Rattle.plan_laws.specs.problem_rules.Problem.{Problem, Material}
+use Rattle.plan_laws.specs.problem_rules.WellFormed.{IsInRange, AreBounds, IsWellFormedMaterial}
+use Rattle.plan_laws.specs.problem_rules.WellFormed.{IsWellFormed}
+use Rattle.plan_laws.specs.edit_rules.Formed.{AreSignedBounds}
+use Rattle.plan_laws.specs.edit_rules.Place.{has_material, material_place}
+use Rattle.edit_scripts.proofs.Cited.{amount_formed, bounds_formed}
+use Rattle.plan_laws.specs.edit_rules.declared.EditKind.{EditKind}
+use Rattle.plan_laws.specs.edit_rules.Line.{tokens_of, script_lines}
+use Rattle.plan_laws.specs.edit_rules.Read.{amount_read, bounds_read}
+use Rattle.plan_laws.specs.plan_rules.declared.PlanKind.{PlanKind}
+use Rattle.plan_laws.specs.plan_rules.declared.PlanKind.TheVariants.{FileType, BadLine, DoubleLine}
+use Rattle.plan_laws.specs.plan_rules.declared.PlanKind.TheVariants.{UnknownName, LowAboveHigh}
+use Rattle.plan_laws.specs.plan_rules.declared.PlanKind.TheVariants.{NoPeriod}
+use Rattle.plan_laws.specs.plan_rules.declared.PlanKind.TheVariants.{TooWide}
+use Rattle.plan_laws.specs.plan_rules.declared.PlanWord.{PlanWord}
+use Rattle.plan_laws.specs.plan_rules.declared.PlanWord.TheVariants as words
+use Rattle.plan_laws.specs.plan_rules.Line.{file_type, Entry, begins, price, bounds, entry_by}
+use Rattle.plan_laws.specs.plan_rules.Line.{word_named}
+use Rattle.plan_laws.specs.plan_rules.Line.{worded_read, tokens_read, line_read}
+use Rattle.plan_laws.specs.plan_rules.Meaning.{entry_fault, at_line, lines_fault, period_count}
+use Rattle.plan_laws.specs.plan_rules.Meaning.{or_behind}
+use Rattle.plan_laws.specs.plan_rules.Meaning.{own_period, changed, period_from, periods_of, judged}
+use Rattle.plan_laws.specs.plan_rules.Meaning.{lines_judged, read_plan}
+use Rattle.plan_laws.specs.plan_rules.Plan.{Period, Plan, IsPeriod, is_too_wide, IsPlan}
+use Rattle.plan_laws.specs.plan_rules.Read.{Fault, Line, Seen, is_begin, is_double, seen_past}
+use Rattle.plan_laws.specs.plan_rules.Read.{nothing_seen}
+use Rattle.plan_laws.specs.plan_rules.Read.{placed, with_line, lines_read, text_read, read_lines}
 use Rattle.std.specs.Str.{bytes_eq}
 
 either : {A : Type 0} (P : A → Type 0) (b : Bool) (x y : A) → P x → P y → P (if b then x else y)

@@ -1,13 +1,14 @@
 -- The whole text: its first line, and what the lines after it stand for.
 use Rattle.std.proofs.Common.{◌≡◌, ◌+◌, ℕ, Option, Some, None, List, [], ◌∷◌, length, Result, Ok}
 use Rattle.std.proofs.Common.{Err, refl, sym, ap, ◌∙◌, arith}
-use Rattle.problem_rules.specs.Problem.{Problem}
-use Rattle.edit_rules.specs.Line.{script_lines}
-use Rattle.plan_rules.specs.Line.{file_type}
-use Rattle.plan_rules.specs.Meaning as rules
-use Rattle.plan_rules.specs.Meaning.{at_line, lines_fault, count_fault, period_count, periods_of}
-use Rattle.plan_rules.specs.Meaning.{or_behind, lines_judged, read_plan}
-use Rattle.plan_rules.specs.Read.{Fault, Line, nothing_seen, lines_read, text_read}
+use Rattle.plan_laws.specs.problem_rules.Problem.{Problem}
+use Rattle.plan_laws.specs.edit_rules.Line.{script_lines}
+use Rattle.plan_laws.specs.plan_rules.Line.{file_type}
+use Rattle.plan_laws.specs.plan_rules.Meaning as rules
+use Rattle.plan_laws.specs.plan_rules.Meaning.{at_line, lines_fault, count_fault, period_count}
+use Rattle.plan_laws.specs.plan_rules.Meaning.{periods_of}
+use Rattle.plan_laws.specs.plan_rules.Meaning.{or_behind, lines_judged, read_plan}
+use Rattle.plan_laws.specs.plan_rules.Read.{Fault, Line, nothing_seen, lines_read, text_read}
 use Rattle.text_lines.specs.Lines.{Coming}
 use Rattle.periods.specs.Reading.{judged, ended, go_on, rest_read}
 use Rattle.periods.proofs.Valid.{periods_counted}

@@ -2,13 +2,15 @@
 use Rattle.std.specs.Prelude.{◌≡◌, ◌==◌, ◌+◌, ℕ, not, List, [], ◌∷◌, length, Option, Some, None}
 use Rattle.std.specs.Prelude.{Result, Ok, Err}
 use Rattle.std.specs.Option.{option_or}
-use Rattle.problem_rules.specs.Problem.{Problem}
-use Rattle.plan_rules.specs.declared.PlanKind.{PlanKind}
-use Rattle.plan_rules.specs.Line.{Entry}
-use Rattle.plan_rules.specs.Meaning.{at_line, lines_fault, count_fault, period_from, periods_of}
-use Rattle.plan_rules.specs.Plan.{Period, Plan}
-use Rattle.plan_rules.specs.Read.{Fault, Line, Seen, nothing_seen, seen_past, placed, with_line}
-use Rattle.plan_rules.specs.Read.{lines_read}
+use Rattle.plan_laws.specs.problem_rules.Problem.{Problem}
+use Rattle.plan_laws.specs.plan_rules.declared.PlanKind.{PlanKind}
+use Rattle.plan_laws.specs.plan_rules.Line.{Entry}
+use Rattle.plan_laws.specs.plan_rules.Meaning.{at_line, lines_fault, count_fault, period_from}
+use Rattle.plan_laws.specs.plan_rules.Meaning.{periods_of}
+use Rattle.plan_laws.specs.plan_rules.Plan.{Period, Plan}
+use Rattle.plan_laws.specs.plan_rules.Read.{Fault, Line, Seen, nothing_seen, seen_past, placed}
+use Rattle.plan_laws.specs.plan_rules.Read.{with_line}
+use Rattle.plan_laws.specs.plan_rules.Read.{lines_read}
 use Rattle.text_lines.specs.Lines.{Coming}
 use Rattle.periods.specs.declared.reading.Reading.{Reading}
 

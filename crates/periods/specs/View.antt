@@ -1,9 +1,9 @@
 -- What a line says, as the rules have it.
 use Rattle.std.specs.Prelude.{◌≡◌, ℕ, List, Result, Ok, Err}
-use Rattle.edit_rules.specs.declared.EditKind.{EditKind}
-use Rattle.plan_rules.specs.declared.PlanKind.{PlanKind}
-use Rattle.plan_rules.specs.Line.{kind_of}
-use Rattle.plan_rules.specs.Line as rules
+use Rattle.plan_laws.specs.edit_rules.declared.EditKind.{EditKind}
+use Rattle.plan_laws.specs.plan_rules.declared.PlanKind.{PlanKind}
+use Rattle.plan_laws.specs.plan_rules.Line.{kind_of}
+use Rattle.plan_laws.specs.plan_rules.Line as rules
 use Rattle.text_lines.specs.declared.fault.LineFault.{LineFault}
 use Rattle.text_lines.specs.declared.fault.LineFault.TheVariants.{Memory, Kind}
 use Rattle.periods.specs.declared.line.Change.{Change}

@@ -1,6 +1,6 @@
 //! Designs of a plant over its periods.
+use flow_program::UnitSet;
 use std::marker::Model;
-use unit_sets::UnitSet;
 
 /// The units that run in a period, with a size for each in rising order of units, in millionths
 /// over the design's d.
@@ -11,7 +11,7 @@ pub struct Run {
 }
 
 impl Model for Run {
-    ghost use Rattle.plan_rules.specs.Folded as rules;
+    ghost use Rattle.plan_laws.specs.plan_rules.Folded as rules;
 
     ghost Value = { rules.Run };
 
@@ -31,7 +31,7 @@ pub struct Design {
 }
 
 impl Model for Design {
-    ghost use Rattle.plan_rules.specs.Folded as rules;
+    ghost use Rattle.plan_laws.specs.plan_rules.Folded as rules;
 
     ghost Value = { rules.Written };
 

@@ -1,14 +1,14 @@
 //! The expanded problem.
 ghost use Rattle.std.specs.Prelude.{◌≡◌, IfOk};
-ghost use Rattle.problem_rules.specs.Validity.{IsValid};
-ghost use Rattle.plan_rules.specs.Expanded.{expanded};
-ghost use Rattle.plan_rules.specs.Plan.{IsPlan};
+ghost use Rattle.plan_laws.specs.problem_rules.Validity.{IsValid};
+ghost use Rattle.plan_laws.specs.plan_rules.Expanded.{expanded};
+ghost use Rattle.plan_laws.specs.plan_rules.Plan.{IsPlan};
 
 use crate::materials::materials_of;
 use crate::plan::Plan;
 use crate::units::units_of;
+use edit_scripts::{Parts, Problem};
 use plan_laws::{expanded_is_valid, plans_are_short};
-use pns_problem::{Parts, Problem};
 use std::alloc::{AllocError, Global};
 
 /// The ordinary problem into which the problem and the plan are expanded. The only refusal is out

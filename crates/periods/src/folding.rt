@@ -2,20 +2,19 @@
 ghost use Rattle.std.specs.Prelude.{◌≡◌, ◌≤◌, ◌<◌, ◌+◌, ◌*◌, ◌++◌, ◌∷◌, [], ℕ, true, pos, IfOk};
 ghost use Rattle.std.specs.Prelude.{OnOk, length, cond, map, slice_index_or};
 ghost use Rattle.std.specs.List.{range_with_len};
-ghost use Rattle.number_sets.specs.Sets.{has, with_number};
-ghost use Rattle.plan_rules.specs.Plan.{IsPlan};
-ghost use Rattle.plan_rules.specs.Expanded.{expanded};
-ghost use Rattle.tree_rules.specs.Claim.{IsFeasible, size_in};
-ghost use Rattle.plan_rules.specs.Folded.{folded, run_from, run_in};
+ghost use Rattle.plan_laws.specs.number_sets.Sets.{has, with_number};
+ghost use Rattle.plan_laws.specs.plan_rules.Plan.{IsPlan};
+ghost use Rattle.plan_laws.specs.plan_rules.Expanded.{expanded};
+ghost use Rattle.plan_laws.specs.tree_rules.Claim.{IsFeasible, size_in};
+ghost use Rattle.plan_laws.specs.plan_rules.Folded.{folded, run_from, run_in};
 
+use crate::Plan;
 use crate::design::{Design, Run};
 use branch_tree::Network;
-use flow_program::by_unit;
-use crate::Plan;
+use edit_scripts::Problem;
+use flow_program::{UnitSet, by_unit};
 use plan_laws::plans_are_short;
-use pns_problem::Problem;
 use std::alloc::{AllocError, Global};
-use unit_sets::UnitSet;
 
 /// If the unit `i` is taken, adds it to the set, and appends its size.
 fn take_if(

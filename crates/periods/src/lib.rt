@@ -29,5 +29,8 @@ pub use design::{Design, Run};
 pub use expansion::expand;
 pub use folding::fold;
 pub use plan::{Period, Plan};
-pub use plan_rules::PlanKind;
+pub use plan_laws::{
+    PlanKind, expanded_is_valid, least_network_is_least_design, no_network_is_no_design,
+    plans_are_short,
+};
 pub use text::{PlanFault, read_plan};

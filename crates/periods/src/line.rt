@@ -1,12 +1,12 @@
 //! One line of a plan alone.
 ghost use Rattle.std.specs.Prelude.{◌≡◌};
 ghost use Rattle.text_lines.specs.View.{texts};
-ghost use Rattle.plan_rules.specs.Line.{kind_of, worded_read, line_read, word_named};
+ghost use Rattle.plan_laws.specs.plan_rules.Line.{kind_of, worded_read, line_read, word_named};
 ghost use Rattle.edit_scripts.specs.Reads.{Reads};
 ghost use Rattle.periods.specs.View.{entry_of, ReadsFields};
 
 use edit_scripts::{EditKind, LineFault as ScriptFault, fields};
-use plan_rules::{PlanKind, PlanWord};
+use plan_laws::{PlanKind, PlanWord};
 use std::alloc::Global;
 use text_lines::fault;
 use text_lines::token::tokens_of;

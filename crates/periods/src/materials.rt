@@ -1,14 +1,14 @@
 //! The materials of an expanded problem.
 ghost use Rattle.std.specs.Prelude.{◌≡◌, ◌++◌, ◌<◌, ◌≤◌, IfOk, OnOk, length, map, flat_map};
 ghost use Rattle.std.specs.List.{range_with_len};
-ghost use Rattle.problem_rules.specs.Each.{Each};
-ghost use Rattle.plan_rules.specs.Expanded.{site, copy, copies, capacity, capacities};
-ghost use Rattle.plan_rules.specs.Expanded.{period_materials, materials_of};
-ghost use Rattle.plan_rules.specs.Plan.{IsPeriod, IsPlan};
+ghost use Rattle.plan_laws.specs.problem_rules.Each.{Each};
+ghost use Rattle.plan_laws.specs.plan_rules.Expanded.{site, copy, copies, capacity, capacities};
+ghost use Rattle.plan_laws.specs.plan_rules.Expanded.{period_materials, materials_of};
+ghost use Rattle.plan_laws.specs.plan_rules.Plan.{IsPeriod, IsPlan};
 
 use crate::number::{UNLIMITED, numbered, numbered_in};
 use crate::plan::{Period, Plan};
-use pns_problem::{Kind, Material, Problem};
+use edit_scripts::{Kind, Material, Problem};
 use std::alloc::{AllocError, Global};
 
 fn site(alloc: Global, unit: u32) -> Result<Material, AllocError>

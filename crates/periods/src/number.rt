@@ -1,8 +1,8 @@
 //! Names by numbers, and terms.
 ghost use Rattle.std.specs.Prelude.{◌≡◌, ◌<◌, IfOk, string_bytes};
-ghost use Rattle.plan_rules.specs.Expanded.{numbered, numbered_in, at_rate_one};
+ghost use Rattle.plan_laws.specs.plan_rules.Expanded.{numbered, numbered_in, at_rate_one};
 
-use pns_problem::Term;
+use edit_scripts::Term;
 use std::alloc::{AllocError, Global};
 
 /// 1 in millionths.

@@ -1,10 +1,10 @@
 //! Plans: the periods in which a plant runs.
 ghost use Rattle.std.specs.Prelude.{◌≡◌, Some, None, IfOk, IfErr, length, slice_set};
-ghost use Rattle.plan_rules.specs.Meaning.{own_period, count_fault};
-ghost use Rattle.plan_rules.specs.Plan.{is_too_wide};
+ghost use Rattle.plan_laws.specs.plan_rules.Meaning.{own_period, count_fault};
+ghost use Rattle.plan_laws.specs.plan_rules.Plan.{is_too_wide};
 
-use plan_rules::PlanKind;
-use pns_problem::Problem;
+use edit_scripts::Problem;
+use plan_laws::PlanKind;
 use std::alloc::{AllocError, Global};
 use std::marker::Model;
 
@@ -17,7 +17,7 @@ pub struct Period {
 }
 
 impl Model for Period {
-    ghost use Rattle.plan_rules.specs.Plan as rules;
+    ghost use Rattle.plan_laws.specs.plan_rules.Plan as rules;
 
     ghost Value = { rules.Period };
 
@@ -88,7 +88,7 @@ pub struct Plan {
 }
 
 impl Model for Plan {
-    ghost use Rattle.plan_rules.specs.Plan as rules;
+    ghost use Rattle.plan_laws.specs.plan_rules.Plan as rules;
 
     ghost Value = { rules.Plan };
 

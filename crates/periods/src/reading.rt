@@ -2,18 +2,18 @@
 ghost use Rattle.std.specs.Prelude.{◌≡◌, ◌<◌, false, not, ℕ, Ok, OnOk, IfOk, IfErr};
 ghost use Rattle.std.specs.Prelude.{IfNone};
 ghost use Rattle.std.specs.Prelude.{length};
-ghost use Rattle.plan_rules.specs.Line as rules;
-ghost use Rattle.plan_rules.specs.Line.{line_read};
-ghost use Rattle.plan_rules.specs.Meaning.{entry_fault, changed};
-ghost use Rattle.plan_rules.specs.Read.{is_double, seen_after, placed};
+ghost use Rattle.plan_laws.specs.plan_rules.Line as rules;
+ghost use Rattle.plan_laws.specs.plan_rules.Line.{line_read};
+ghost use Rattle.plan_laws.specs.plan_rules.Meaning.{entry_fault, changed};
+ghost use Rattle.plan_laws.specs.plan_rules.Read.{is_double, seen_after, placed};
 ghost use Rattle.text_lines.specs.Tells.{TellsLine};
 ghost use Rattle.periods.specs.View.{changes};
 ghost use Rattle.periods.specs.Reading.{seen_of, HasTaken};
 
 use crate::line::{Change, Entry, LineFault, read_line};
 use crate::{Period, Plan};
-use plan_rules::PlanKind;
-use pns_problem::Problem;
+use edit_scripts::Problem;
+use plan_laws::PlanKind;
 use std::alloc::{AllocError, Global};
 use std::mem;
 use text_lines::name_set::NameSet;

@@ -1,14 +1,14 @@
 //! The reader of a whole plan.
 ghost use Rattle.std.specs.Prelude.{◌≡◌, ◌<◌, ◌-◌, ◌^◌, Ok, IfOk, IfErr, length};
-ghost use Rattle.plan_rules.specs.Meaning.{read_plan};
-ghost use Rattle.plan_rules.specs.Plan.{IsPlan};
+ghost use Rattle.plan_laws.specs.plan_rules.Meaning.{read_plan};
+ghost use Rattle.plan_laws.specs.plan_rules.Plan.{IsPlan};
 ghost use Rattle.text_lines.specs.Tells.{Tells};
 ghost use Rattle.periods.specs.Reading.{rest_read};
 
-use crate::reading::Reading;
 use crate::Plan;
-use plan_rules::PlanKind;
-use pns_problem::Problem;
+use crate::reading::Reading;
+use edit_scripts::Problem;
+use plan_laws::PlanKind;
 use std::alloc::Global;
 use text_lines::fault::TextFault;
 use text_lines::lines::{Drops, Lines};

@@ -1,14 +1,15 @@
 //! The units of an expanded problem.
 ghost use Rattle.std.specs.Prelude.{◌≡◌, ◌∷◌, [], ◌++◌, ◌<◌, ◌≤◌, IfOk, OnOk, length, map};
 ghost use Rattle.std.specs.List.{range_with_len};
-ghost use Rattle.problem_rules.specs.Each.{Each};
-ghost use Rattle.problem_rules.specs.Problem.{unit_at};
-ghost use Rattle.problem_rules.specs.WellFormed.{IsWellFormedTerm};
-ghost use Rattle.plan_rules.specs.Expanded.{first_of, capacity_of, at_rate_one, built, built_units};
-ghost use Rattle.plan_rules.specs.Expanded.{side_in, running, period_units, units_of};
+ghost use Rattle.plan_laws.specs.problem_rules.Each.{Each};
+ghost use Rattle.plan_laws.specs.problem_rules.Problem.{unit_at};
+ghost use Rattle.plan_laws.specs.problem_rules.WellFormed.{IsWellFormedTerm};
+ghost use Rattle.plan_laws.specs.plan_rules.Expanded.{first_of, capacity_of, at_rate_one, built};
+ghost use Rattle.plan_laws.specs.plan_rules.Expanded.{built_units};
+ghost use Rattle.plan_laws.specs.plan_rules.Expanded.{side_in, running, period_units, units_of};
 
 use crate::number::{at_rate_one, numbered, numbered_in};
-use pns_problem::{OperatingUnit, Problem, Term};
+use edit_scripts::{OperatingUnit, Problem, Term};
 use std::alloc::{AllocError, Global};
 
 /// The number of the first material of a period.

@@ -8,10 +8,11 @@ use Rattle.std.proofs.lemmas.Bool.{cases_eq, cases_lt, lt-ltb, le-ltb, eqb-false
 use Rattle.std.proofs.lemmas.Bool.{false_from_ne_true}
 use Rattle.std.proofs.lemmas.List.{get_or_default, get_or_past, take_more, get_or-set_same}
 use Rattle.std.proofs.lemmas.List.{get_or-set_other, get_or_read}
-use Rattle.number_sets.specs.Sets.{has, first, with_number, kept, union, meet, IsWithin}
-use Rattle.number_sets.proofs.SetLemmas.{has-with_number, has-union, has-meet, any_below-from}
-use Rattle.number_sets.proofs.SetLemmas.{any_below-some, same_tests}
-use Rattle.problem_rules.specs.Problem.{Term, OperatingUnit, no_unit, terms_have}
+use Rattle.flow_rules.specs.number_sets.Sets.{has, first, with_number, kept, union, meet, IsWithin}
+use Rattle.flow_rules.proofs.number_sets.Cited.{has-with_number, has-union, has-meet}
+use Rattle.flow_rules.proofs.number_sets.Cited.{any_below-from}
+use Rattle.flow_rules.proofs.number_sets.Cited.{any_below-some, same_tests}
+use Rattle.flow_rules.specs.problem_rules.Problem.{Term, OperatingUnit, no_unit, terms_have}
 use Rattle.pgraph.specs.declared.arcs.Side.{Side}
 use Rattle.pgraph.specs.declared.arcs.Side.TheVariants.{Inputs, Outputs}
 use Rattle.pgraph.specs.Arcs.{Arcs, materials_at, units_at, joins, joins_some, IsArcs}

@@ -3,12 +3,12 @@ use Rattle.std.proofs.Common.{◌≡◌, ℕ, ◌<◌, Bool, true, false, not, �
 use Rattle.std.proofs.Common.{ap, ap₂, ◌∙◌}
 use Rattle.std.proofs.lemmas.Bool.{and_parts, and_from, both_ways, true_from_ne_false}
 use Rattle.std.proofs.lemmas.Bool.{false_from_ne_true, not-true}
-use Rattle.number_sets.specs.Sets.{has, union, meet, minus}
-use Rattle.number_sets.proofs.SetLemmas.{has-union, has-meet, has-minus}
-use Rattle.pns_rules.specs.Shape.{Shape}
-use Rattle.pns_rules.specs.Structure.{is_made, is_used, mats, HasPath, IsStructure}
-use Rattle.pns_rules.specs.Ends.{IsNever}
-use Rattle.pns_rules.specs.Breaks.{BreaksS1, BreaksS2, BreaksS4}
+use Rattle.flow_rules.specs.number_sets.Sets.{has, union, meet, minus}
+use Rattle.flow_rules.proofs.number_sets.Cited.{has-union, has-meet, has-minus}
+use Rattle.flow_rules.specs.pns_rules.Shape.{Shape}
+use Rattle.flow_rules.specs.pns_rules.Structure.{is_made, is_used, mats, HasPath, IsStructure}
+use Rattle.flow_rules.specs.pns_rules.Ends.{IsNever}
+use Rattle.flow_rules.specs.pns_rules.Breaks.{BreaksS1, BreaksS2, BreaksS4}
 
 module _ (g : Shape) (o : List ℕ) where
   pub breaks_s1_is : (products materials missing : List ℕ) → has products ≡ g.product

@@ -4,10 +4,10 @@ use Rattle.std.proofs.Common.{[], ◌∷◌, length, ◌↔◌, refl, sym, ap, �
 use Rattle.std.proofs.Common.{eq-eqb, eqb-true}
 use Rattle.std.proofs.lemmas.Bool.{or_cases, or_left, or_right, and_parts, and_from, both_ways}
 use Rattle.std.proofs.lemmas.Bool.{cases_eq, not-true}
-use Rattle.number_sets.specs.Sets.{has, union, meet, minus, IsRising}
-use Rattle.number_sets.proofs.SetLemmas.{has-union, has-meet, has-minus}
-use Rattle.pns_rules.specs.Shape.{Shape}
-use Rattle.pns_rules.specs.Structure.{Clashes}
+use Rattle.flow_rules.specs.number_sets.Sets.{has, union, meet, minus, IsRising}
+use Rattle.flow_rules.proofs.number_sets.Cited.{has-union, has-meet, has-minus}
+use Rattle.flow_rules.specs.pns_rules.Shape.{Shape}
+use Rattle.flow_rules.specs.pns_rules.Structure.{Clashes}
 use Rattle.pgraph.specs.Rivals.{SharesBelow, IsFoundOrMet, IsRival}
 use Rattle.pgraph.proofs.ArcLemmas.{some_number}
 

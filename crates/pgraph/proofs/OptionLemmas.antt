@@ -1,12 +1,13 @@
 -- The base and the free makers of a material as sets.
 use Rattle.std.proofs.Common.{◌≡◌, ℕ, nat_lt, Bool, true, not, ◌&&◌, List, sym, ap, ◌∙◌, lt-ltb}
 use Rattle.std.proofs.lemmas.Bool.{and_parts, and_from, both_ways, not-true}
-use Rattle.number_sets.specs.Sets.{has, meet, minus, listed, IsRising, Avoids}
-use Rattle.number_sets.proofs.SetLemmas.{has-meet, has-minus, has-listed, IsRising-listed}
-use Rattle.number_sets.proofs.SetLemmas.{same_sets, same_tests}
-use Rattle.pns_rules.specs.Shape.{Shape, IsProper}
-use Rattle.pns_rules.specs.Structure.{makers}
-use Rattle.pns_rules.specs.Nodes.{Node, is_free, base_makers, free_makers}
+use Rattle.flow_rules.specs.number_sets.Sets.{has, meet, minus, listed, IsRising, Avoids}
+use Rattle.flow_rules.proofs.number_sets.Cited.{has-meet, has-minus, has-listed, IsRising-listed}
+use Rattle.flow_rules.proofs.number_sets.Cited.{same_sets}
+use Rattle.flow_rules.proofs.number_sets.Cited.{same_tests}
+use Rattle.flow_rules.specs.pns_rules.Shape.{Shape, IsProper}
+use Rattle.flow_rules.specs.pns_rules.Structure.{makers}
+use Rattle.flow_rules.specs.pns_rules.Nodes.{Node, is_free, base_makers, free_makers}
 
 module _ (g : Shape) (proper : IsProper g) (x : ℕ) (inside outside producers : List ℕ)
     (producers_are : has producers ≡ (λ u. g.makes u x)) where

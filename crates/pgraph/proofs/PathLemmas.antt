@@ -6,15 +6,15 @@ use Rattle.std.proofs.Common.{eqb-true}
 use Rattle.std.proofs.Common.{ne_eqb}
 use Rattle.std.proofs.lemmas.Bool.{or_cases, or_left, or_right, or_from, and_parts, and_from}
 use Rattle.std.proofs.lemmas.Bool.{both_ways, true_from_ne_false, not-true}
-use Rattle.number_sets.specs.Sets.{has, first, with_number, union, meet, minus, IsWithin}
-use Rattle.number_sets.specs.Sets.{IsRising}
-use Rattle.number_sets.proofs.SetLemmas.{has-with_number, has-union, has-meet, has-minus}
-use Rattle.number_sets.proofs.SetLemmas.{below_not_had}
-use Rattle.pns_rules.specs.Shape.{Shape, IsProper}
-use Rattle.pns_rules.specs.Structure.{is_used, IsPath, HasPath}
-use Rattle.pns_rules.specs.Ends.{IsFirst, IsNever}
-use Rattle.pns_rules.proofs.StructureLemmas.{is_used-from, is_used-some}
-use Rattle.number_sets.proofs.OptionLemmas.{first_had, first_none}
+use Rattle.flow_rules.specs.number_sets.Sets.{has, first, with_number, union, meet, minus, IsWithin}
+use Rattle.flow_rules.specs.number_sets.Sets.{IsRising}
+use Rattle.flow_rules.proofs.number_sets.Cited.{has-with_number, has-union, has-meet, has-minus}
+use Rattle.flow_rules.proofs.number_sets.Cited.{below_not_had}
+use Rattle.flow_rules.proofs.number_sets.Cited.{first_had, first_none}
+use Rattle.flow_rules.specs.pns_rules.Shape.{Shape, IsProper}
+use Rattle.flow_rules.specs.pns_rules.Structure.{is_used, IsPath, HasPath}
+use Rattle.flow_rules.specs.pns_rules.Ends.{IsFirst, IsNever}
+use Rattle.flow_rules.proofs.pns_rules.Cited.{is_used-from, is_used-some}
 
 -- ---- the least number of a set
 

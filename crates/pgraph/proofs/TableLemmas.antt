@@ -4,12 +4,13 @@ use Rattle.std.proofs.Common.{false, ◌&&◌, ◌||◌, List, [], ◌∷◌, �
 use Rattle.std.proofs.Common.{sym, ap, ◌∙◌, subst, inl, inr, ◌⊎◌, arith, eq-eqb, ne_eqb}
 use Rattle.std.proofs.lemmas.Bool.{or_left, or_right, cases_eq, lt-ltb, le-ltb}
 use Rattle.std.proofs.lemmas.List.{get_or_default, get_or_past, take_more}
-use Rattle.number_sets.specs.Sets.{has, with_number}
-use Rattle.number_sets.proofs.SetLemmas.{has-append, has-with_number}
-use Rattle.problem_rules.specs.Problem.{Problem, Material, OperatingUnit, Exclusion, no_material}
-use Rattle.problem_rules.specs.Problem.{no_exclusion, is_raw_material, is_product}
-use Rattle.problem_rules.specs.WellFormed.{IsWellFormed}
-use Rattle.pns_rules.specs.Shape.{IsProper, shape_of}
+use Rattle.flow_rules.specs.number_sets.Sets.{has, with_number}
+use Rattle.flow_rules.proofs.number_sets.Cited.{has-append, has-with_number}
+use Rattle.flow_rules.specs.problem_rules.Problem.{Problem, Material, OperatingUnit, Exclusion}
+use Rattle.flow_rules.specs.problem_rules.Problem.{no_material}
+use Rattle.flow_rules.specs.problem_rules.Problem.{no_exclusion, is_raw_material, is_product}
+use Rattle.flow_rules.specs.problem_rules.WellFormed.{IsWellFormed}
+use Rattle.flow_rules.specs.pns_rules.Shape.{IsProper, shape_of}
 use Rattle.pgraph.specs.declared.arcs.Side.TheVariants.{Inputs, Outputs}
 use Rattle.pgraph.specs.Arcs.{joins}
 use Rattle.pgraph.specs.Tables.{Tables, shape, IsGraph}

@@ -1,6 +1,6 @@
 -- The arcs of one direction between materials and units, found from either end.
 use Rattle.std.specs.Prelude.{◌≡◌, ℕ, ◌≤◌, Bool, ◌&&◌, List, [], length, slice_index_or}
-use Rattle.number_sets.specs.Sets.{has, any_below}
+use Rattle.flow_rules.specs.number_sets.Sets.{has, any_below}
 
 -- the materials at each unit, and the units at each material
 pub record Arcs : Type 0 where

@@ -1,8 +1,10 @@
 -- What the building of a graph reads of a problem.
 use Rattle.std.specs.Prelude.{ℕ, Bool, List, slice_index_or}
-use Rattle.problem_rules.specs.Problem.{Material, Term, OperatingUnit, Exclusion, no_material}
-use Rattle.problem_rules.specs.Problem.{no_unit, no_exclusion, is_raw_material, is_product}
-use Rattle.problem_rules.specs.Problem.{terms_have}
+use Rattle.flow_rules.specs.problem_rules.Problem.{Material, Term, OperatingUnit, Exclusion}
+use Rattle.flow_rules.specs.problem_rules.Problem.{no_material}
+use Rattle.flow_rules.specs.problem_rules.Problem.{no_unit, no_exclusion, is_raw_material}
+use Rattle.flow_rules.specs.problem_rules.Problem.{is_product}
+use Rattle.flow_rules.specs.problem_rules.Problem.{terms_have}
 use Rattle.pgraph.specs.declared.arcs.Side.{Side}
 use Rattle.pgraph.specs.declared.arcs.Side.TheVariants.{Inputs, Outputs}
 

@@ -1,7 +1,7 @@
 -- What the type of the covers of a charge keeps.
 use Rattle.std.specs.Prelude.{◌<◌, ◌≤◌, ℤ, pos, ◌≤ℤ◌, List, length, IfSome}
-use Rattle.integer_laws.specs.Range.{InRange}
-use Rattle.problem_rules.specs.Each.{Each}
+use Rattle.flow_rules.specs.integer_laws.Range.{InRange}
+use Rattle.flow_rules.specs.problem_rules.Each.{Each}
 use Rattle.flow_rules.specs.Cover.{Cover}
 
 -- the weight is in range and not below 0, and a unit beside the set is below 128

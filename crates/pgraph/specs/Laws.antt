@@ -1,9 +1,9 @@
 -- The laws of steps, ends and children of one graph's nodes.
 use Rattle.std.specs.Prelude.{◌≡◌, ℕ, Bool, true, List, ◌↔◌}
-use Rattle.pns_rules.specs.Shape.{Shape}
-use Rattle.pns_rules.specs.Structure.{InFamily, Clashes, is_needed}
-use Rattle.pns_rules.specs.Nodes.{Node, Step, IsPossible, after, IsOption, child}
-use Rattle.pns_rules.specs.Ends.{IsDead}
+use Rattle.flow_rules.specs.pns_rules.Shape.{Shape}
+use Rattle.flow_rules.specs.pns_rules.Structure.{InFamily, Clashes, is_needed}
+use Rattle.flow_rules.specs.pns_rules.Nodes.{Node, Step, IsPossible, after, IsOption, child}
+use Rattle.flow_rules.specs.pns_rules.Ends.{IsDead}
 
 -- a possible step loses no structure and adds none
 abbrev pub StepsKeepFamilies : Shape → Type 0

@@ -1,6 +1,6 @@
 -- The rivals of a unit set: the units outside it that share an exclusion with a unit of it.
 use Rattle.std.specs.Prelude.{◌≡◌, ℕ, ◌<◌, Bool, true, false, ◌⊎◌}
-use Rattle.pns_rules.specs.Shape.{Shape}
+use Rattle.flow_rules.specs.pns_rules.Shape.{Shape}
 
 -- an exclusion below n names u and a unit of the set
 pub record SharesBelow (g : Shape) (o : ℕ → Bool) (n u : ℕ) : Type 0 where

@@ -1,8 +1,8 @@
 -- What contracts see of a graph: its raw materials and its products, the arcs from input materials
 -- to units and from units to output materials, and the units of each exclusion.
 use Rattle.std.specs.Prelude.{◌≡◌, ℕ, ◌≤◌, List, [], length, slice_index_or}
-use Rattle.number_sets.specs.Sets.{has}
-use Rattle.pns_rules.specs.Shape.{Shape, IsProper}
+use Rattle.flow_rules.specs.number_sets.Sets.{has}
+use Rattle.flow_rules.specs.pns_rules.Shape.{Shape, IsProper}
 use Rattle.pgraph.specs.Arcs.{Arcs, joins}
 
 pub record Tables : Type 0 where

@@ -1,6 +1,6 @@
 -- The nodes and steps of the code, as the rules speak of them.
-use Rattle.number_sets.specs.Sets.{has}
-use Rattle.pns_rules.specs.Nodes as rules
+use Rattle.flow_rules.specs.number_sets.Sets.{has}
+use Rattle.flow_rules.specs.pns_rules.Nodes as rules
 use Rattle.unit_sets.specs.declared.node.Node.{Node}
 use Rattle.unit_sets.specs.declared.step.Step.{Step}
 use Rattle.unit_sets.specs.declared.step.Step.TheVariants.{Raw, Rival, Starve, Loose, Sole}

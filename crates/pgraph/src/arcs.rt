@@ -1,7 +1,7 @@
 //! The arcs of one direction between materials and units.
 ghost use Rattle.std.specs.Prelude.{◌≡◌, ◌<◌, ◌≤◌, ◌==◌, ◌&&◌, ◌||◌, ℕ, true, false, length, IfOk};
-ghost use Rattle.number_sets.specs.Sets.{has};
-ghost use Rattle.problem_rules.specs.Problem.{terms_have};
+ghost use Rattle.flow_rules.specs.number_sets.Sets.{has};
+ghost use Rattle.flow_rules.specs.problem_rules.Problem.{terms_have};
 ghost use Rattle.pgraph.specs.Arcs.{joins, joins_some, IsArcs};
 ghost use Rattle.pgraph.specs.Building.{terms_on, has_term};
 

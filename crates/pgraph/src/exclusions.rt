@@ -1,8 +1,8 @@
 //! Which units exclude each other.
 ghost use Rattle.std.specs.Prelude.{◌≡◌, ◌<◌, ◌↔◌, ℕ, true, IsTrue, MatchOption};
-ghost use Rattle.number_sets.specs.Sets.{has};
-ghost use Rattle.pns_rules.specs.Structure.{Clashes};
-ghost use Rattle.pns_rules.specs.Ends.{IsFirst, IsNever};
+ghost use Rattle.flow_rules.specs.number_sets.Sets.{has};
+ghost use Rattle.flow_rules.specs.pns_rules.Structure.{Clashes};
+ghost use Rattle.flow_rules.specs.pns_rules.Ends.{IsFirst, IsNever};
 ghost use Rattle.pgraph.specs.Tables.{shape};
 ghost use Rattle.pgraph.specs.Rivals.{IsRival, SharesBelow, IsFoundOrMet};
 

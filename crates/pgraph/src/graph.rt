@@ -1,14 +1,14 @@
 //! The graph of a problem, and what it says of materials, units and sets of units.
 ghost use Rattle.std.specs.Prelude.{◌≡◌, ◌<◌, ◌≤◌, ℕ, true, length, IfOk};
-ghost use Rattle.number_sets.specs.Sets.{has};
-ghost use Rattle.pns_rules.specs.Shape.{IsProper, shape_of};
-ghost use Rattle.pns_rules.specs.Structure.{is_made, is_used, mats, is_needed};
+ghost use Rattle.flow_rules.specs.number_sets.Sets.{has};
+ghost use Rattle.flow_rules.specs.pns_rules.Shape.{IsProper, shape_of};
+ghost use Rattle.flow_rules.specs.pns_rules.Structure.{is_made, is_used, mats, is_needed};
 ghost use Rattle.pgraph.specs.Tables.{shape, excluded_at, IsGraph};
 
 use crate::arcs::{Arcs, Side};
 use crate::tables::{excluded_units, raws_and_products};
+use flow_rules::valid_is_proper;
 use pns_problem::Problem;
-use pns_rules::valid_is_proper;
 use std::alloc::{AllocError, Global};
 use std::marker::Model;
 use unit_sets::{MatSet, UnitSet};

@@ -11,7 +11,7 @@ pub fn steps_keep_families(graph: &Graph)
     ensures { StepsKeepFamilies (shape graph.now) }
 {
     graph.is_proper();
-    pns_rules::steps_keep_families();
+    flow_rules::steps_keep_families();
 }
 
 /// A node that clashes at an exclusion has an empty family. So has a node with a dead material.
@@ -20,7 +20,7 @@ pub fn ends_are_empty(graph: &Graph)
     ensures dead { DeadAreEmpty (shape graph.now) }
 {
     graph.is_proper();
-    pns_rules::ends_are_empty();
+    flow_rules::ends_are_empty();
 }
 
 /// The families of the children of a needed material cover the family of the node, and no structure
@@ -30,5 +30,5 @@ pub fn children_split_families(graph: &Graph)
     ensures apart { ChildrenAreApart (shape graph.now) }
 {
     graph.is_proper();
-    pns_rules::children_split_families();
+    flow_rules::children_split_families();
 }

@@ -33,5 +33,13 @@ mod verdict;
 
 pub use cover::Cover;
 pub use covers::Covers;
+pub use flow_rules::{
+    Column, FlowStep, Place, Verdict, listing_exists, refutation, relaxed_duality, sums_are_last,
+    valid_is_proper, weak_duality,
+};
 pub use graph::Graph;
+pub use pns_problem::{
+    Exclusion, Kind, Material, OperatingUnit, Parts, Problem, Term, amount_text, generate,
+};
 pub use site::Site;
+pub use unit_sets::{MatSet, Node, Step, UnitSet};

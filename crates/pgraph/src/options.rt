@@ -1,7 +1,7 @@
 //! The makers among which a node may choose.
 ghost use Rattle.std.specs.Prelude.{◌≡◌, ◌<◌};
-ghost use Rattle.number_sets.specs.Sets.{has, Avoids};
-ghost use Rattle.pns_rules.specs.Nodes.{base_makers, free_makers};
+ghost use Rattle.flow_rules.specs.number_sets.Sets.{has, Avoids};
+ghost use Rattle.flow_rules.specs.pns_rules.Nodes.{base_makers, free_makers};
 ghost use Rattle.pgraph.specs.Tables.{shape};
 ghost use Rattle.pgraph.specs.View.{node_of};
 

@@ -1,7 +1,7 @@
 //! Which units have a path to a product.
 ghost use Rattle.std.specs.Prelude.{◌≡◌, ◌↔◌, ℕ, true};
-ghost use Rattle.number_sets.specs.Sets.{has};
-ghost use Rattle.pns_rules.specs.Structure.{HasPath};
+ghost use Rattle.flow_rules.specs.number_sets.Sets.{has};
+ghost use Rattle.flow_rules.specs.pns_rules.Structure.{HasPath};
 ghost use Rattle.pgraph.specs.Tables.{shape};
 
 use crate::graph::Graph;

@@ -1,7 +1,7 @@
 //! A problem with its graph.
 ghost use Rattle.std.specs.Prelude.{◌≡◌, ◌≤◌};
-ghost use Rattle.problem_rules.specs.Validity.{IsValid};
-ghost use Rattle.pns_rules.specs.Shape.{IsProper, shape_of};
+ghost use Rattle.flow_rules.specs.problem_rules.Validity.{IsValid};
+ghost use Rattle.flow_rules.specs.pns_rules.Shape.{IsProper, shape_of};
 ghost use Rattle.pgraph.specs.Tables.{shape};
 
 use crate::graph::Graph;
@@ -18,8 +18,8 @@ pub struct Site<'a> {
 
 impl<'a> Model for Site<'a> {
     ghost use Rattle.std.specs.Prelude.{◌≡◌};
-    ghost use Rattle.problem_rules.specs.Problem.{Problem};
-    ghost use Rattle.pns_rules.specs.Shape.{shape_of};
+    ghost use Rattle.flow_rules.specs.problem_rules.Problem.{Problem};
+    ghost use Rattle.flow_rules.specs.pns_rules.Shape.{shape_of};
     ghost use Rattle.pgraph.specs.Tables.{shape};
 
     ghost Value = { Problem };

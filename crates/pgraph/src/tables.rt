@@ -2,8 +2,8 @@
 //! exclusion.
 ghost use Rattle.std.specs.Prelude.{◌≡◌, ◌<◌, ◌≤◌, ◌==◌, ◌&&◌, ◌||◌, ℕ, true, List, [], length};
 ghost use Rattle.std.specs.Prelude.{IfOk, slice_index_or};
-ghost use Rattle.number_sets.specs.Sets.{has};
-ghost use Rattle.problem_rules.specs.Problem.{is_raw_material, is_product};
+ghost use Rattle.flow_rules.specs.number_sets.Sets.{has};
+ghost use Rattle.flow_rules.specs.problem_rules.Problem.{is_raw_material, is_product};
 ghost use Rattle.pns_problem.specs.Kind.{kind_of};
 ghost use Rattle.pgraph.specs.Building.{is_raw_at, is_product_at, units_excluded};
 

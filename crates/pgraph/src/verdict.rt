@@ -1,13 +1,13 @@
 //! The axioms, judged one after another.
 ghost use Rattle.std.specs.Prelude.{◌≡◌, ◌<◌, ◌↔◌, ℕ, true, false};
-ghost use Rattle.number_sets.specs.Sets.{has};
-ghost use Rattle.pns_rules.specs.Structure.{IsStructure, HasPath};
+ghost use Rattle.flow_rules.specs.number_sets.Sets.{has};
+ghost use Rattle.flow_rules.specs.pns_rules.Structure.{IsStructure, HasPath};
 ghost use Rattle.pgraph.specs.Tables.{shape};
-ghost use Rattle.pns_rules.specs.Breaks.{BreaksS1, BreaksS2, BreaksS4};
-ghost use Rattle.pns_rules.specs.Verdict.{Judges};
+ghost use Rattle.flow_rules.specs.pns_rules.Breaks.{BreaksS1, BreaksS2, BreaksS4};
+ghost use Rattle.flow_rules.specs.pns_rules.Verdict.{Judges};
 
 use crate::graph::Graph;
-use pns_rules::{Axiom, Verdict};
+use flow_rules::{Axiom, Verdict};
 use unit_sets::{MatSet, UnitSet};
 
 impl Graph {

@@ -5,10 +5,11 @@ use Rattle.std.proofs.Common.{inl, inr, ◌⊎◌, arith}
 use Rattle.std.proofs.lemmas.Int.{ints}
 use Rattle.std.proofs.lemmas.Bool.{or_cases, or_left, or_right, eq-eqb, eqb-true, true≢false}
 use Rattle.std.proofs.lemmas.Bool.{false_from_ne_true}
-use Rattle.problem_rules.specs.Problem.{Problem, OperatingUnit, Term, unit_at, terms_have, rate_in}
-use Rattle.problem_rules.specs.Problem.{rate_of}
-use Rattle.flow_rules.proofs.NetLemmas.{no_rate_in}
-use Rattle.pns_rules.specs.Shape.{Shape, shape_of, IsProper}
+use Rattle.plan_rules.specs.problem_rules.Problem.{Problem, OperatingUnit, Term, unit_at}
+use Rattle.plan_rules.specs.problem_rules.Problem.{terms_have, rate_in}
+use Rattle.plan_rules.specs.problem_rules.Problem.{rate_of}
+use Rattle.plan_rules.proofs.flow_rules.Cited.{no_rate_in}
+use Rattle.plan_rules.specs.pns_rules.Shape.{Shape, shape_of, IsProper}
 use Rattle.plan_rules.specs.Expanded.{first_of, copy_of, capacity_of, at_rate_one, one, built}
 use Rattle.plan_rules.specs.Expanded.{side_in, running, expanded}
 use Rattle.plan_rules.specs.Plan.{Plan}

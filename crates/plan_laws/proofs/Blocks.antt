@@ -8,8 +8,8 @@ use Rattle.std.proofs.lemmas.Int.{ints}
 use Rattle.std.proofs.lemmas.Bool.{cases_lt, lt-ltb, le-ltb, false_from_ne_true, ltb-true}
 use Rattle.std.proofs.lemmas.List.{get_or_append_left, get_or-append_right}
 use Rattle.std.proofs.Math.Nat.{mul-le-mul_right}
-use Rattle.integer_laws.specs.Total.{total_below}
-use Rattle.integer_laws.proofs.IndexTotals.{total_below-split}
+use Rattle.plan_rules.specs.integer_laws.Total.{total_below}
+use Rattle.plan_rules.proofs.integer_laws.Cited.{total_below-split}
 use Rattle.plan_laws.proofs.Lists.{times_more}
 
 -- the end of a block is at most the start of the next

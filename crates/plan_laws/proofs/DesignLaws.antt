@@ -2,25 +2,27 @@
 use Rattle.std.proofs.Common.{◌≡◌, ◌<◌, ◌≤◌, ℕ, Bool, length, ℤ, pos, negsuc, ◌*ℤ◌, ◌≤ℤ◌, refl, sym}
 use Rattle.std.proofs.Common.{ap, subst, ◌∙◌, arith}
 use Rattle.std.proofs.lemmas.Int.{ints}
-use Rattle.problem_rules.specs.Problem.{Problem, unit_at}
-use Rattle.problem_rules.specs.WellFormed.{IsInRange}
-use Rattle.problem_rules.specs.Validity.{IsValid}
-use Rattle.pns_rules.specs.Shape.{shape_of, IsProper}
-use Rattle.pns_rules.specs.Structure.{IsStructure, IsAllowed}
-use Rattle.pns_rules.proofs.ProperLemmas.{proper_if_valid}
-use Rattle.problem_rules.proofs.ValidLemmas.{well_formed_from_valid}
-use Rattle.flow_rules.specs.Net.{net_of}
-use Rattle.flow_rules.proofs.NetLemmas.{net_of_valid, unit_formed}
+use Rattle.plan_rules.specs.problem_rules.Problem.{Problem, unit_at}
+use Rattle.plan_rules.specs.problem_rules.WellFormed.{IsInRange}
+use Rattle.plan_rules.specs.problem_rules.Validity.{IsValid}
+use Rattle.plan_rules.specs.pns_rules.Shape.{shape_of, IsProper}
+use Rattle.plan_rules.specs.pns_rules.Structure.{IsStructure, IsAllowed}
+use Rattle.plan_rules.proofs.pns_rules.Cited.{proper_if_valid}
+use Rattle.plan_rules.proofs.problem_rules.Cited.{well_formed_from_valid}
+use Rattle.plan_rules.specs.flow_rules.Net.{net_of}
+use Rattle.plan_rules.proofs.flow_rules.Cited.{net_of_valid, unit_formed}
 use Rattle.plan_rules.specs.Expanded.{unlimited, expanded}
 use Rattle.plan_rules.specs.Plan.{Plan, IsPlan}
 use Rattle.plan_rules.specs.Design.{Design, IsDesign, design_cost}
 use Rattle.plan_laws.specs.Laws.{ExpandedIsValid}
-use Rattle.tree_rules.specs.Claim.{Network, network, infeasible, claimed_cost, IsFeasible}
-use Rattle.tree_rules.specs.Claim.{IsAtLeast}
-use Rattle.tree_rules.specs.Costs.{CostsEnough}
+use Rattle.plan_rules.specs.tree_rules.Claim.{Network, network, infeasible, claimed_cost}
+use Rattle.plan_rules.specs.tree_rules.Claim.{IsFeasible}
+use Rattle.plan_rules.specs.tree_rules.Claim.{IsAtLeast}
+use Rattle.plan_rules.specs.tree_rules.Costs.{CostsEnough}
 use Rattle.plan_rules.specs.Folded.{folded, design_of}
 use Rattle.plan_rules.specs.Least.{IsLeastDesign, HasNoDesign}
-use Rattle.plan_laws.specs.DesignLaws.{Runs, BuildsUnion, FamiliesAreStructures, StructuresAreFamilies}
+use Rattle.plan_laws.specs.DesignLaws.{Runs, BuildsUnion, FamiliesAreStructures}
+use Rattle.plan_laws.specs.DesignLaws.{StructuresAreFamilies}
 use Rattle.plan_laws.specs.DesignLaws.{HasNetwork, DesignsAreNetworks, NoNetworkIsNoDesign}
 use Rattle.plan_laws.specs.DesignLaws.{LeastNetworkIsLeastDesign}
 use Rattle.plan_laws.proofs.Structures.{families_unite, each_runs, built_is_union}

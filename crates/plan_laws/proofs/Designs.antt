@@ -5,20 +5,19 @@ use Rattle.std.proofs.Common.{refl, sym, ap, subst, ◌∙◌, inl, inr, arith}
 use Rattle.std.proofs.lemmas.Int.{ints}
 use Rattle.std.proofs.lemmas.Bool.{and_parts, ltb-true, lt-ltb, true≢false, eqb-true, or_left}
 use Rattle.std.proofs.lemmas.List.FromFn.{get_or-map-range_with_len}
-use Rattle.integer_laws.proofs.Order.{cancel_le}
-use Rattle.integer_laws.proofs.Ring.{ring_z, mul_comm_z, mul-zero_z}
-use Rattle.number_sets.specs.Sets.{any_below, has, listed}
-use Rattle.number_sets.proofs.SetLemmas.{any_below-from, has-listed}
-use Rattle.problem_rules.specs.Problem.{Problem, OperatingUnit, material_at}
-use Rattle.pns_rules.specs.Shape.{Shape, shape_of, IsProper}
-use Rattle.pns_rules.specs.Structure.{is_used, is_made, mats, IsStructure, IsAllowed}
-use Rattle.pns_rules.proofs.StructureLemmas.{is_used-from}
-use Rattle.flow_rules.specs.Net.{Net, net_of, million, low_end, high_end, beside}
-use Rattle.flow_rules.specs.Flows.{balance, IsFlows, cost}
+use Rattle.plan_rules.proofs.integer_laws.Cited.{cancel_le, ring_z, mul_comm_z, mul-zero_z}
+use Rattle.plan_rules.specs.number_sets.Sets.{any_below, has, listed}
+use Rattle.plan_rules.proofs.number_sets.Cited.{any_below-from, has-listed}
+use Rattle.plan_rules.specs.problem_rules.Problem.{Problem, OperatingUnit, material_at}
+use Rattle.plan_rules.specs.pns_rules.Shape.{Shape, shape_of, IsProper}
+use Rattle.plan_rules.specs.pns_rules.Structure.{is_used, is_made, mats, IsStructure, IsAllowed}
+use Rattle.plan_rules.proofs.pns_rules.Cited.{is_used-from}
+use Rattle.plan_rules.specs.flow_rules.Net.{Net, net_of, million, low_end, high_end, beside}
+use Rattle.plan_rules.specs.flow_rules.Flows.{balance, IsFlows, cost}
 use Rattle.plan_rules.specs.Expanded.{copy_of, capacity_of, one, expanded}
 use Rattle.plan_rules.specs.Plan.{Plan}
 use Rattle.plan_rules.specs.Design.{Design, is_built, net_in, IsRun, IsDesign, design_cost}
-use Rattle.tree_rules.specs.Claim.{Network, size_in, IsFeasible}
+use Rattle.plan_rules.specs.tree_rules.Claim.{Network, size_in, IsFeasible}
 use Rattle.plan_rules.specs.Folded.{Run, run_at, no_run, design_of, running_number, run_from}
 use Rattle.plan_rules.specs.Folded.{run_in, folded}
 use Rattle.plan_laws.specs.DesignLaws.{Runs}

@@ -1,5 +1,6 @@
 pub mod Arcs
 pub mod Blocks
+pub mod Cited
 mod DesignLaws
 pub mod Designs
 pub mod Lists
@@ -12,3 +13,4 @@ pub mod Structures
 pub mod Sums
 pub mod Terms
 mod Valid
+pub use Rattle.plan_rules.proofs.number_sets as number_sets

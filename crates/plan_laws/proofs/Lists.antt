@@ -8,8 +8,8 @@ use Rattle.std.specs.Prelude.{slice_index_or}
 use Rattle.std.specs.List.{list_any, range_with_len}
 use Rattle.std.proofs.lemmas.Bool.{true≢false, or_left, or_right, cases_lt}
 use Rattle.std.proofs.lemmas.List.Folds.{list_any-append}
-use Rattle.problem_rules.specs.Each.{Each}
-use Rattle.text_laws.proofs.Each.{each-append}
+use Rattle.plan_rules.specs.problem_rules.Each.{Each}
+use Rattle.text_laws.proofs.Cited.{each-append}
 
 pub times_more : (n w : ℕ) → suc n * w ≡ n * w + w
 times_more n w = omega arith

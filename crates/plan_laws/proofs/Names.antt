@@ -8,10 +8,10 @@ use Rattle.std.specs.List.{list_all, list_any, before_first, after_first}
 use Rattle.std.specs.Char.{is_ascii_digit}
 use Rattle.std.specs.Str.{byte}
 use Rattle.std.proofs.lemmas.Bool.{or_from, and_from, le-leb, leb-true, agree_below_at}
-use Rattle.problem_rules.specs.Names.{is_name, begins_name, continues_name}
-use Rattle.text_laws.proofs.Cuts.{not_mark, none_from_all, before_mark, after_mark}
-use Rattle.text_laws.proofs.Digits.{all-append, decimal_reads}
-use Rattle.text_rules.specs.Amount.{is_point, number_from, number_of}
+use Rattle.plan_rules.specs.problem_rules.Names.{is_name, begins_name, continues_name}
+use Rattle.text_laws.proofs.Cited.{not_mark, none_from_all, before_mark, after_mark, all-append}
+use Rattle.text_laws.proofs.Cited.{decimal_reads}
+use Rattle.plan_rules.specs.text_rules.Amount.{is_point, number_from, number_of}
 use Rattle.plan_rules.specs.Expanded.{numbered, numbered_in}
 
 -- ---- names

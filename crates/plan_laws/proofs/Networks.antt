@@ -4,17 +4,19 @@ use Rattle.std.proofs.Common.{nat_lt, length, ℤ, pos, neg_ℤ, ◌+ℤ◌, ◌
 use Rattle.std.proofs.Common.{◌∙◌, inl, inr, arith}
 use Rattle.std.proofs.lemmas.Int.{ints}
 use Rattle.std.proofs.lemmas.Bool.{and_parts, ltb-true, lt-ltb, le-ltb, true≢false, cases_lt}
-use Rattle.integer_laws.proofs.Order.{mul-le_left, mul-le_right, mul_nonneg, le_trans_z}
-use Rattle.integer_laws.proofs.Ring.{ring_z, mul_comm_z, mul_assoc_z, mul-zero_z}
-use Rattle.number_sets.specs.Sets.{any_below}
-use Rattle.number_sets.proofs.SetLemmas.{any_below-from}
-use Rattle.problem_rules.specs.Problem.{Problem, Material, OperatingUnit, material_at, unit_at}
-use Rattle.problem_rules.specs.Problem.{is_raw_material}
-use Rattle.pns_rules.specs.Shape.{Shape, shape_of, IsProper}
-use Rattle.pns_rules.specs.Structure.{mats, IsStructure, IsAllowed}
-use Rattle.flow_rules.specs.Net.{Net, net_of, million, low_end, high_end}
-use Rattle.flow_rules.specs.Flows.{balance, IsFlows, cost}
-use Rattle.flow_rules.proofs.NetLemmas.{IsNet}
+use Rattle.plan_rules.proofs.integer_laws.Cited.{mul-le_left, mul-le_right, mul_nonneg, le_trans_z}
+use Rattle.plan_rules.proofs.integer_laws.Cited.{ring_z}
+use Rattle.plan_rules.proofs.integer_laws.Cited.{mul_comm_z, mul_assoc_z, mul-zero_z}
+use Rattle.plan_rules.specs.number_sets.Sets.{any_below}
+use Rattle.plan_rules.proofs.number_sets.Cited.{any_below-from}
+use Rattle.plan_rules.specs.problem_rules.Problem.{Problem, Material, OperatingUnit, material_at}
+use Rattle.plan_rules.specs.problem_rules.Problem.{unit_at}
+use Rattle.plan_rules.specs.problem_rules.Problem.{is_raw_material}
+use Rattle.plan_rules.specs.pns_rules.Shape.{Shape, shape_of, IsProper}
+use Rattle.plan_rules.specs.pns_rules.Structure.{mats, IsStructure, IsAllowed}
+use Rattle.plan_rules.specs.flow_rules.Net.{Net, net_of, million, low_end, high_end}
+use Rattle.plan_rules.specs.flow_rules.Flows.{balance, IsFlows, cost}
+use Rattle.plan_rules.proofs.flow_rules.Cited.{IsNet}
 use Rattle.plan_rules.specs.Expanded.{copy_of, capacity_of, one, unlimited, expanded}
 use Rattle.plan_rules.specs.Plan.{Plan, period_at, material_in, in_period}
 use Rattle.plan_rules.specs.Design.{Design, is_built, net_in, IsRun, IsDesign, design_cost}

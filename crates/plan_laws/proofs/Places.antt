@@ -6,8 +6,9 @@ use Rattle.std.specs.List.{range_with_len}
 use Rattle.std.proofs.lemmas.Bool.{cases_lt}
 use Rattle.std.proofs.lemmas.List.{get_or_append_left, get_or-append_right}
 use Rattle.std.proofs.lemmas.List.FromFn.{length-map-range_with_len, get_or-map-range_with_len}
-use Rattle.problem_rules.specs.Problem.{Problem, Material, OperatingUnit, material_at, unit_at}
-use Rattle.problem_rules.specs.Problem.{no_material, no_unit}
+use Rattle.plan_rules.specs.problem_rules.Problem.{Problem, Material, OperatingUnit, material_at}
+use Rattle.plan_rules.specs.problem_rules.Problem.{unit_at}
+use Rattle.plan_rules.specs.problem_rules.Problem.{no_material, no_unit}
 use Rattle.plan_rules.specs.Expanded.{first_of, copy_of, capacity_of, site, sites, copy, copies}
 use Rattle.plan_rules.specs.Expanded.{capacity, capacities, period_materials, materials_of, built}
 use Rattle.plan_rules.specs.Expanded.{built_units, running, period_units, units_of, expanded}

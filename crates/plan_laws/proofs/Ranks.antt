@@ -5,7 +5,7 @@ use Rattle.std.specs.List.{range_with_len}
 use Rattle.std.specs.Str.{bytes_eq}
 use Rattle.std.proofs.lemmas.Bool.{or_from, false_from_ne_true}
 use Rattle.std.proofs.lemmas.Slice.Eq.{bytes_eq-Decides}
-use Rattle.problem_rules.specs.Names.{is_among, has_double}
+use Rattle.plan_rules.specs.problem_rules.Names.{is_among, has_double}
 use Rattle.plan_laws.proofs.Lists.{times_more}
 
 module _ {X : Type 0} (name : X → List ℕ) (rank : List ℕ → ℕ) where

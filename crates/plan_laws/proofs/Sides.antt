@@ -7,7 +7,7 @@ use Rattle.std.specs.List.{range_with_len}
 use Rattle.std.proofs.lemmas.Bool.{or_cases, or_left, or_right, or_parts, ne_eqb, eq-eqb}
 use Rattle.std.proofs.lemmas.Bool.{eqb-true}
 use Rattle.std.proofs.lemmas.Bool.{true≢false}
-use Rattle.problem_rules.specs.Problem.{Term, terms_have, rate_in}
+use Rattle.plan_rules.specs.problem_rules.Problem.{Term, terms_have, rate_in}
 use Rattle.plan_rules.specs.Expanded.{at_rate_one, one}
 use Rattle.plan_laws.proofs.Terms.{moved}
 

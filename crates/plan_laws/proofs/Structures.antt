@@ -4,14 +4,17 @@ use Rattle.std.proofs.Common.{◌≡◌, ◌<◌, ◌≤◌, ◌+◌, ◌*◌, �
 use Rattle.std.proofs.Common.{length, refl, sym, ap, subst, ◌∙◌, inl, inr, ◌⊎◌, arith}
 use Rattle.std.proofs.lemmas.Bool.{or_cases, or_left, or_right, true≢false, both_ways}
 use Rattle.std.proofs.lemmas.Bool.{false_from_ne_true, true_from_ne_false}
-use Rattle.number_sets.specs.Sets.{any_below}
-use Rattle.number_sets.proofs.SetLemmas.{any_below-from, any_below-some, same_tests}
-use Rattle.problem_rules.specs.Problem.{Problem, Material, material_at, is_raw_material, is_product}
-use Rattle.pns_rules.specs.Shape.{Shape, shape_of, IsProper}
-use Rattle.pns_rules.specs.Structure.{is_made, is_used, mats, IsPath, HasPath, Meets, IsStructure}
-use Rattle.pns_rules.specs.Structure.{Clashes, IsAllowed}
-use Rattle.pns_rules.proofs.StructureLemmas.{is_made-from, is_made-some, is_used-from, is_used-some}
-use Rattle.pns_rules.proofs.StructureLemmas.{a_maker, used_in}
+use Rattle.plan_rules.specs.number_sets.Sets.{any_below}
+use Rattle.plan_rules.proofs.number_sets.Cited.{any_below-from, any_below-some, same_tests}
+use Rattle.plan_rules.specs.problem_rules.Problem.{Problem, Material, material_at, is_raw_material}
+use Rattle.plan_rules.specs.problem_rules.Problem.{is_product}
+use Rattle.plan_rules.specs.pns_rules.Shape.{Shape, shape_of, IsProper}
+use Rattle.plan_rules.specs.pns_rules.Structure.{is_made, is_used, mats, IsPath, HasPath, Meets}
+use Rattle.plan_rules.specs.pns_rules.Structure.{IsStructure}
+use Rattle.plan_rules.specs.pns_rules.Structure.{Clashes, IsAllowed}
+use Rattle.plan_rules.proofs.pns_rules.Cited.{is_made-from, is_made-some, is_used-from}
+use Rattle.plan_rules.proofs.pns_rules.Cited.{is_used-some, a_maker}
+use Rattle.plan_rules.proofs.pns_rules.Cited.{used_in}
 use Rattle.plan_rules.specs.Expanded.{copy_of, capacity_of, expanded}
 use Rattle.plan_rules.specs.Plan.{Plan}
 use Rattle.plan_rules.specs.Folded.{running_number}

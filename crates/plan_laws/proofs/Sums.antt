@@ -4,16 +4,19 @@ use Rattle.std.proofs.Common.{◌≡◌, ◌≢◌, ◌<◌, ◌≤◌, ◌+◌,
 use Rattle.std.proofs.Common.{pos, neg_ℤ, ◌+ℤ◌, ◌-ℤ◌, ◌*ℤ◌, refl, sym, ap, subst, ◌∙◌, arith}
 use Rattle.std.proofs.lemmas.Int.{ints}
 use Rattle.std.proofs.lemmas.List.FromFn.{get_or-map-range_with_len}
-use Rattle.integer_laws.specs.Total.{total_below}
-use Rattle.integer_laws.proofs.IndexTotals.{total_below-same, total_below-zero, total_below-add}
-use Rattle.integer_laws.proofs.IndexTotals.{total_below-neg, total_below-single, total_below-split}
-use Rattle.integer_laws.proofs.Ring.{ring_z, mul_comm_z, mul-zero_z}
-use Rattle.problem_rules.specs.Problem.{Problem, Material, OperatingUnit, material_at, unit_at}
-use Rattle.problem_rules.specs.Problem.{no_material, rate_of}
-use Rattle.pns_rules.specs.Shape.{Shape, shape_of, IsProper}
-use Rattle.flow_rules.specs.Net.{Net, net_of, million, trillion, size_cost}
-use Rattle.flow_rules.specs.Flows.{balance, cost}
-use Rattle.flow_rules.proofs.ListedLemmas.{total-listed}
+use Rattle.plan_rules.specs.integer_laws.Total.{total_below}
+use Rattle.plan_rules.proofs.integer_laws.Cited.{total_below-same, total_below-zero}
+use Rattle.plan_rules.proofs.integer_laws.Cited.{total_below-add}
+use Rattle.plan_rules.proofs.integer_laws.Cited.{total_below-neg, total_below-single}
+use Rattle.plan_rules.proofs.integer_laws.Cited.{total_below-split}
+use Rattle.plan_rules.proofs.integer_laws.Cited.{ring_z, mul_comm_z, mul-zero_z}
+use Rattle.plan_rules.specs.problem_rules.Problem.{Problem, Material, OperatingUnit, material_at}
+use Rattle.plan_rules.specs.problem_rules.Problem.{unit_at}
+use Rattle.plan_rules.specs.problem_rules.Problem.{no_material, rate_of}
+use Rattle.plan_rules.specs.pns_rules.Shape.{Shape, shape_of, IsProper}
+use Rattle.plan_rules.specs.flow_rules.Net.{Net, net_of, million, trillion, size_cost}
+use Rattle.plan_rules.specs.flow_rules.Flows.{balance, cost}
+use Rattle.plan_rules.proofs.flow_rules.Cited.{total-listed}
 use Rattle.plan_rules.specs.Expanded.{first_of, copy_of, capacity_of, one, expanded}
 use Rattle.plan_rules.specs.Plan.{Plan, period_at, price_at, material_in, in_period}
 use Rattle.plan_rules.specs.Design.{Design, is_built, net_in, building_cost, earned, design_cost}

@@ -3,8 +3,8 @@ use Rattle.std.proofs.Common.{◌≡◌, ◌<◌, ◌≤◌, ◌+◌, ◌==◌, 
 use Rattle.std.proofs.Common.{[], ◌∷◌, ◌++◌, map, refl, ap, ◌∙◌, arith}
 use Rattle.std.specs.List.{range_with_len}
 use Rattle.std.proofs.lemmas.Bool.{or_from, or_parts, ne_eqb, eq-eqb, eqb-true}
-use Rattle.problem_rules.specs.Problem.{Term, terms_have}
-use Rattle.problem_rules.specs.Validity.{repeats_material, shares_material}
+use Rattle.plan_rules.specs.problem_rules.Problem.{Term, terms_have}
+use Rattle.plan_rules.specs.problem_rules.Validity.{repeats_material, shares_material}
 use Rattle.plan_rules.specs.Expanded.{at_rate_one}
 
 -- terms that are moved by a number

@@ -9,17 +9,21 @@ use Rattle.std.proofs.lemmas.List.{length-map}
 use Rattle.std.proofs.lemmas.List.Folds.{list_any-append}
 use Rattle.std.proofs.lemmas.List.FromFn.{length-map-range_with_len}
 use Rattle.std.proofs.Math.Nat.{mul-le-mul_left, mul-le-mul_right}
-use Rattle.problem_rules.specs.Each.{Each}
-use Rattle.problem_rules.specs.Names.{has_double}
-use Rattle.problem_rules.specs.Problem.{Problem, Material, Term, OperatingUnit, no_material}
-use Rattle.problem_rules.specs.Problem.{no_unit, unit_at, is_product, material_names, unit_names}
-use Rattle.problem_rules.specs.Validity.{has_product}
-use Rattle.problem_rules.specs.WellFormed.{IsBound, AreBounds, IsWellFormedMaterial}
-use Rattle.problem_rules.specs.WellFormed.{IsWellFormedTerm, IsWellFormedSide, IsWellFormedUnit}
-use Rattle.problem_rules.specs.WellFormed.{AreRisingFrom, IsWellFormedExclusion, IsWellFormed}
-use Rattle.problem_rules.proofs.TermLemmas.{known_material}
-use Rattle.text_laws.proofs.Each.{each-append, each-map, each-to}
-use Rattle.text_rules.specs.Amount.{number_of}
+use Rattle.plan_rules.specs.problem_rules.Each.{Each}
+use Rattle.plan_rules.specs.problem_rules.Names.{has_double}
+use Rattle.plan_rules.specs.problem_rules.Problem.{Problem, Material, Term, OperatingUnit}
+use Rattle.plan_rules.specs.problem_rules.Problem.{no_material}
+use Rattle.plan_rules.specs.problem_rules.Problem.{no_unit, unit_at, is_product, material_names}
+use Rattle.plan_rules.specs.problem_rules.Problem.{unit_names}
+use Rattle.plan_rules.specs.problem_rules.Validity.{has_product}
+use Rattle.plan_rules.specs.problem_rules.WellFormed.{IsBound, AreBounds, IsWellFormedMaterial}
+use Rattle.plan_rules.specs.problem_rules.WellFormed.{IsWellFormedTerm, IsWellFormedSide}
+use Rattle.plan_rules.specs.problem_rules.WellFormed.{IsWellFormedUnit}
+use Rattle.plan_rules.specs.problem_rules.WellFormed.{AreRisingFrom, IsWellFormedExclusion}
+use Rattle.plan_rules.specs.problem_rules.WellFormed.{IsWellFormed}
+use Rattle.plan_rules.proofs.problem_rules.Cited.{known_material}
+use Rattle.text_laws.proofs.Cited.{each-append, each-map, each-to}
+use Rattle.plan_rules.specs.text_rules.Amount.{number_of}
 use Rattle.plan_rules.specs.Expanded.{first_of, copy_of, capacity_of, at_rate_one, site, sites}
 use Rattle.plan_rules.specs.Expanded.{copy, copies, capacity, capacities, period_materials}
 use Rattle.plan_rules.specs.Expanded.{materials_of, built, built_units, side_in, running}

@@ -1,18 +1,19 @@
 -- The laws of designs and of networks of the expanded problem. Each is the contract of a public
 -- function of this crate, and holds for every valid problem and every plan for it.
 use Rattle.std.specs.Prelude.{◌≡◌, ℕ, ◌<◌, ℤ, Bool, true, length}
-use Rattle.number_sets.specs.Sets.{any_below}
-use Rattle.problem_rules.specs.Problem.{Problem}
-use Rattle.problem_rules.specs.Validity.{IsValid}
-use Rattle.pns_rules.specs.Shape.{shape_of}
-use Rattle.pns_rules.specs.Structure.{IsStructure, IsAllowed}
-use Rattle.flow_rules.specs.Net.{net_of}
-use Rattle.flow_rules.specs.Flows.{IsFlows, cost}
+use Rattle.plan_rules.specs.number_sets.Sets.{any_below}
+use Rattle.plan_rules.specs.problem_rules.Problem.{Problem}
+use Rattle.plan_rules.specs.problem_rules.Validity.{IsValid}
+use Rattle.plan_rules.specs.pns_rules.Shape.{shape_of}
+use Rattle.plan_rules.specs.pns_rules.Structure.{IsStructure, IsAllowed}
+use Rattle.plan_rules.specs.flow_rules.Net.{net_of}
+use Rattle.plan_rules.specs.flow_rules.Flows.{IsFlows, cost}
 use Rattle.plan_rules.specs.Expanded.{expanded}
 use Rattle.plan_rules.specs.Plan.{Plan, IsPlan}
 use Rattle.plan_rules.specs.Design.{Design, IsDesign, design_cost}
-use Rattle.tree_rules.specs.Claim.{Network, network, infeasible, claimed_cost, IsFeasible}
-use Rattle.tree_rules.specs.Costs.{CostsEnough}
+use Rattle.plan_rules.specs.tree_rules.Claim.{Network, network, infeasible, claimed_cost}
+use Rattle.plan_rules.specs.tree_rules.Claim.{IsFeasible}
+use Rattle.plan_rules.specs.tree_rules.Costs.{CostsEnough}
 use Rattle.plan_rules.specs.Folded.{running_number, folded}
 use Rattle.plan_rules.specs.Least.{IsLeastDesign, HasNoDesign}
 

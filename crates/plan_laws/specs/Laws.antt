@@ -1,7 +1,7 @@
 -- The laws of plans. Each is the contract of a public function of this crate.
 use Rattle.std.specs.Prelude.{◌≤◌, length}
-use Rattle.problem_rules.specs.Problem.{Problem}
-use Rattle.problem_rules.specs.Validity.{IsValid}
+use Rattle.plan_rules.specs.problem_rules.Problem.{Problem}
+use Rattle.plan_rules.specs.problem_rules.Validity.{IsValid}
 use Rattle.plan_rules.specs.Expanded.{expanded}
 use Rattle.plan_rules.specs.Plan.{Plan, IsPlan}
 

@@ -13,14 +13,15 @@
 
 ghost use Rattle.plan_laws.specs.Laws.{ExpandedIsValid, PlansAreShort};
 
+use plan_rules::valid_is_well_formed;
+
 mod laws;
 
 pub use laws::{
     designs_are_networks, families_are_structures, least_network_is_least_design,
     no_network_is_no_design, structures_are_families,
 };
-
-use problem_rules::valid_is_well_formed;
+pub use plan_rules::{PlanKind, PlanWord};
 
 /// A valid problem and a plan for it give a valid expanded problem.
 pub fn expanded_is_valid()

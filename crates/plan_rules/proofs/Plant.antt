@@ -1,6 +1,6 @@
 -- A small plant to plan for: one unit that makes P of A.
 use Rattle.std.proofs.Common.{[], ◌∷◌, codes, pos}
-use Rattle.problem_rules.specs.Problem.{Problem, raw_material, product}
+use Rattle.edit_rules.specs.problem_rules.Problem.{Problem, raw_material, product}
 use Rattle.plan_rules.specs.Plan.{Period, Plan}
 
 abbrev pub plant : Problem

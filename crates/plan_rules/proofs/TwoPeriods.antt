@@ -3,10 +3,10 @@
 use Rattle.std.proofs.Common.{◌≡◌, ◌++◌, ℕ, zero, suc, true, List, [], ◌∷◌, codes, refl, None, Ok}
 use Rattle.std.proofs.Common.{Err, ℤ, pos}
 use Rattle.std.specs.Fmt.{digits}
-use Rattle.number_sets.specs.Sets.{listed}
-use Rattle.problem_rules.specs.Problem.{material_names, unit_names}
-use Rattle.problem_rules.specs.Validity.{fault_of}
-use Rattle.text_rules.specs.Canonical.{rates_lines}
+use Rattle.edit_rules.specs.number_sets.Sets.{listed}
+use Rattle.edit_rules.specs.problem_rules.Problem.{material_names, unit_names}
+use Rattle.edit_rules.specs.problem_rules.Validity.{fault_of}
+use Rattle.edit_rules.specs.text_rules.Canonical.{rates_lines}
 use Rattle.plan_rules.specs.declared.PlanKind.TheVariants.{UnknownName, NoPeriod}
 use Rattle.plan_rules.specs.Design.{Design, design_cost}
 use Rattle.plan_rules.specs.Expanded.{expanded}

@@ -3,13 +3,14 @@
 -- count from 0.
 use Rattle.std.specs.Prelude.{◌≡◌, ℕ, ◌<◌, ℤ, pos, ◌+ℤ◌, ◌-ℤ◌, ◌*ℤ◌, ◌≤ℤ◌, Bool, true, false}
 use Rattle.std.specs.Prelude.{length}
-use Rattle.integer_laws.specs.Total.{total, total_below}
-use Rattle.number_sets.specs.Sets.{any_below}
-use Rattle.problem_rules.specs.Problem.{Problem}
-use Rattle.pns_rules.specs.Shape.{shape_of}
-use Rattle.pns_rules.specs.Structure.{IsStructure, IsAllowed, mats}
-use Rattle.flow_rules.specs.Net.{Net, net_of, million, trillion, units_of, low_end, high_end}
-use Rattle.flow_rules.specs.Flows.{balance}
+use Rattle.tree_rules.specs.integer_laws.Total.{total, total_below}
+use Rattle.edit_rules.specs.number_sets.Sets.{any_below}
+use Rattle.edit_rules.specs.problem_rules.Problem.{Problem}
+use Rattle.tree_rules.specs.pns_rules.Shape.{shape_of}
+use Rattle.tree_rules.specs.pns_rules.Structure.{IsStructure, IsAllowed, mats}
+use Rattle.tree_rules.specs.flow_rules.Net.{Net, net_of, million, trillion, units_of, low_end}
+use Rattle.tree_rules.specs.flow_rules.Net.{high_end}
+use Rattle.tree_rules.specs.flow_rules.Flows.{balance}
 use Rattle.plan_rules.specs.Plan.{Plan, period_at, in_period}
 
 -- the units that run in each period, the capacity of each unit, its size in each period, and d, the

@@ -6,8 +6,9 @@
 use Rattle.std.specs.Prelude.{ℕ, suc, ◌+◌, ◌*◌, List, [], ◌∷◌, ◌++◌, map, flat_map, length, codes}
 use Rattle.std.specs.Prelude.{decimal, ℤ, pos}
 use Rattle.std.specs.List.{range_with_len}
-use Rattle.problem_rules.specs.Problem.{raw_material, intermediate, Material, Term, OperatingUnit}
-use Rattle.problem_rules.specs.Problem.{Problem, material_at, unit_at}
+use Rattle.edit_rules.specs.problem_rules.Problem.{raw_material, intermediate, Material, Term}
+use Rattle.edit_rules.specs.problem_rules.Problem.{OperatingUnit}
+use Rattle.edit_rules.specs.problem_rules.Problem.{Problem, material_at, unit_at}
 use Rattle.plan_rules.specs.Plan.{Period, Plan, period_at, price_at, lower_at, upper_at}
 
 -- ---- names

@@ -3,9 +3,9 @@
 -- capacities. The copies that run in a period give the units that run in it.
 use Rattle.std.specs.Prelude.{ℕ, ℤ, ◌+◌, ◌*◌, List, [], map, length, slice_index_or}
 use Rattle.std.specs.List.{range_with_len}
-use Rattle.number_sets.specs.Sets.{has, listed}
-use Rattle.problem_rules.specs.Problem.{Problem}
-use Rattle.flow_rules.specs.Net.{beside}
+use Rattle.edit_rules.specs.number_sets.Sets.{has, listed}
+use Rattle.edit_rules.specs.problem_rules.Problem.{Problem}
+use Rattle.tree_rules.specs.flow_rules.Net.{beside}
 use Rattle.plan_rules.specs.Plan.{Plan}
 use Rattle.plan_rules.specs.Design.{Design}
 use Rattle.tree_rules.specs.Claim.{Network, size_in}

@@ -1,7 +1,7 @@
 -- Designs of least cost. Costs are over d and the payout period in 10^-18 of the money unit, so the
 -- costs of two designs of one plant are compared by cross products.
 use Rattle.std.specs.Prelude.{◌≡◌, ◌*ℤ◌, ◌≤ℤ◌}
-use Rattle.problem_rules.specs.Problem.{Problem}
+use Rattle.edit_rules.specs.problem_rules.Problem.{Problem}
 use Rattle.plan_rules.specs.Plan.{Plan}
 use Rattle.plan_rules.specs.Design.{Design, IsDesign, design_cost}
 use Rattle.plan_rules.specs.Folded.{Written, design_of}

@@ -3,7 +3,7 @@
 -- too many.
 use Rattle.std.specs.Prelude.{◌==◌, ◌+◌, ℕ, suc, List, [], ◌∷◌, length, map, Option, Some, None}
 use Rattle.std.specs.Prelude.{Result, Ok, Err, int_lt, slice_set, if◌then◌else◌}
-use Rattle.problem_rules.specs.Problem.{Problem, Material}
+use Rattle.edit_rules.specs.problem_rules.Problem.{Problem, Material}
 use Rattle.edit_rules.specs.Place.{has_material, material_place}
 use Rattle.edit_rules.specs.Line.{script_lines}
 use Rattle.plan_rules.specs.declared.PlanKind.{PlanKind}

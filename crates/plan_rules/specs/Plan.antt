@@ -3,9 +3,9 @@
 use Rattle.std.specs.Prelude.{◌≡◌, ◌<◌, ◌+◌, ◌*◌, ℕ, nat_lt, Bool, false, ◌||◌, List, [], map}
 use Rattle.std.specs.Prelude.{length, ℤ, pos, slice_index_or}
 use Rattle.std.specs.List.{range_with_len}
-use Rattle.problem_rules.specs.Each.{Each}
-use Rattle.problem_rules.specs.Problem.{Material, Problem, material_at}
-use Rattle.problem_rules.specs.WellFormed.{IsInRange, AreBounds}
+use Rattle.edit_rules.specs.problem_rules.Each.{Each}
+use Rattle.edit_rules.specs.problem_rules.Problem.{Material, Problem, material_at}
+use Rattle.edit_rules.specs.problem_rules.WellFormed.{IsInRange, AreBounds}
 
 -- one number for each material, in file order
 pub record Period : Type 0 where

@@ -5,7 +5,7 @@
 use Rattle.std.specs.Prelude.{◌+◌, ◌++◌, ℕ, Bool, true, false, List, [], ◌∷◌, Result, Ok, Err}
 use Rattle.std.specs.Prelude.{if◌then◌else◌}
 use Rattle.std.specs.Str.{bytes_eq}
-use Rattle.problem_rules.specs.Names.{is_among}
+use Rattle.edit_rules.specs.problem_rules.Names.{is_among}
 use Rattle.edit_rules.specs.Line.{script_lines}
 use Rattle.plan_rules.specs.declared.PlanKind.{PlanKind}
 use Rattle.plan_rules.specs.declared.PlanKind.TheVariants.{FileType, BadLine, DoubleLine}

@@ -12,6 +12,8 @@
 //! plant over its periods costs less.
 #![tactic(auto)]
 
+pub use edit_rules::valid_is_well_formed;
+
 /// A kind of fault of a plan. The variants are in the order of their numbers, 1 to 12. The whole
 /// text is first searched for faults of form, 1 to 8; faults of meaning count only if there is none
 /// of form. The first line with a fault of its group is reported, and of the faults at that line

@@ -2,9 +2,8 @@
 
 ghost use Rattle.std.specs.Prelude.{◌<◌};
 
-use report_amounts::push_six_digits;
-use pns_io::Progress;
 use std::alloc::{AllocError, Global};
+use studio::{Progress, push_six_digits};
 
 /// Half of what a cost is divided by. A payout period of 0 years counts as one.
 fn half_of(years: u8) -> u64

@@ -10,13 +10,12 @@ mod line;
 mod watch;
 
 use crate::watch::LineWatch;
-use pns_io::{FileShelf, OutSink, Outputs};
 use std::alloc::Global;
 use std::env;
 use std::io::ErrorKind;
 use std::process::ExitCode;
 use std::rt::Env;
-use studio::{Status, code_of, studio};
+use studio::{FileShelf, OutSink, Outputs, Status, code_of, studio};
 
 /// The number with which the program ends if its words cannot be gathered, and memory did not run
 /// out. No call of the studio ends so.

@@ -1,12 +1,12 @@
 //! Who watches a search: those who read the standard error.
 
 use crate::line::line_of;
-use pns_io::{Progress, Watch};
 use std::alloc::Global;
 use std::env;
 use std::env::VarError;
 use std::rt::{Clock, Env};
 use std::time::Instant;
+use studio::{Progress, Watch};
 
 /// The clock is asked once in so many turns of a search.
 const TURNS: u32 = 64;

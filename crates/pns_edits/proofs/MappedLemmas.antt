@@ -3,9 +3,9 @@ use Rattle.std.proofs.Common.{◌≡◌, ◌<◌, ◌+◌, ℕ, zero, suc, Bool,
 use Rattle.std.proofs.Common.{◌++◌, length, map, reverse, take, drop, get_or, set, refl, sym, ap}
 use Rattle.std.proofs.Common.{◌∙◌, arith}
 use Rattle.std.proofs.lemmas.List.{append-nil, map-append, reverse-append}
-use Rattle.number_sets.specs.Sets.{listed}
-use Rattle.problem_rules.specs.Problem.{Term, OperatingUnit, Exclusion}
-use Rattle.edit_rules.specs.Numbering.{in_term, in_unit, in_exclusion}
+use Rattle.edit_laws.specs.number_sets.Sets.{listed}
+use Rattle.edit_laws.specs.problem_rules.Problem.{Term, OperatingUnit, Exclusion}
+use Rattle.edit_laws.specs.edit_rules.Numbering.{in_term, in_unit, in_exclusion}
 
 changed_at : {X : Type 0} (f : X → X) (old : List X) (i : ℕ) (d : X) → i < length old
     → set (map f (take i old) ++ drop i old) i (f (get_or (map f (take i old) ++ drop i old) i d))

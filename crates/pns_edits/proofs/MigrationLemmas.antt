@@ -3,10 +3,10 @@ use Rattle.std.proofs.Common.{◌≡◌, ◌<◌, ◌≤◌, ◌-◌, ◌*◌, �
 use Rattle.std.proofs.Common.{◌∷◌, length, map, ℤ, pos, sym, ap, ◌∙◌, arith}
 use Rattle.std.specs.Prelude.{flat_map}
 use Rattle.std.proofs.lemmas.List.{length-append, length-map}
-use Rattle.problem_rules.specs.Problem.{Problem, OperatingUnit}
-use Rattle.edit_rules.specs.Edit as rules
-use Rattle.edit_rules.specs.Edit.{fix, proportional, investment}
-use Rattle.edit_rules.specs.Migration.{costs_nothing_yearly, unit_migration, migration}
+use Rattle.edit_laws.specs.problem_rules.Problem.{Problem, OperatingUnit}
+use Rattle.edit_laws.specs.edit_rules.Edit as rules
+use Rattle.edit_laws.specs.edit_rules.Edit.{fix, proportional, investment}
+use Rattle.edit_laws.specs.edit_rules.Migration.{costs_nothing_yearly, unit_migration, migration}
 
 three_at_most : (b : Bool) (x y z : rules.Edit) → length (cond b [] (x ∷ y ∷ z ∷ [])) ≤ 3
 three_at_most true x y z = omega arith

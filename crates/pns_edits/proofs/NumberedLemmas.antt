@@ -1,11 +1,12 @@
 -- The numbers in a valid problem are those of its items.
 use Rattle.std.proofs.Common.{◌≤◌, ◌+◌, ℕ, List, [], ◌∷◌, length, arith}
-use Rattle.problem_rules.specs.Problem.{Problem, Term, OperatingUnit, Exclusion}
-use Rattle.problem_rules.specs.Each.{Each}
-use Rattle.problem_rules.specs.Validity.{IsValid}
-use Rattle.problem_rules.specs.WellFormed.{IsWellFormed, IsWellFormedTerm, IsWellFormedUnit}
-use Rattle.problem_rules.specs.WellFormed.{IsWellFormedExclusion, AreRisingFrom}
-use Rattle.problem_rules.proofs.ValidLemmas.{well_formed_from_valid}
+use Rattle.edit_laws.specs.problem_rules.Problem.{Problem, Term, OperatingUnit, Exclusion}
+use Rattle.edit_laws.specs.problem_rules.Each.{Each}
+use Rattle.edit_laws.specs.problem_rules.Validity.{IsValid}
+use Rattle.edit_laws.specs.problem_rules.WellFormed.{IsWellFormed, IsWellFormedTerm}
+use Rattle.edit_laws.specs.problem_rules.WellFormed.{IsWellFormedUnit}
+use Rattle.edit_laws.specs.problem_rules.WellFormed.{IsWellFormedExclusion, AreRisingFrom}
+use Rattle.edit_laws.proofs.problem_rules.Cited.{well_formed_from_valid}
 use Rattle.pns_edits.specs.Terms.{AreTermsBelow, IsUnitBelow, AreNumbersBelow, IsExclusionBelow}
 use Rattle.pns_edits.specs.Terms.{IsNumbered}
 

@@ -4,20 +4,20 @@ use Rattle.std.proofs.Common.{length, map, reverse, drop, get_or, refl, sym, ap,
 use Rattle.std.specs.Prelude.{option_map}
 use Rattle.std.proofs.lemmas.List.{append-nil, append_assoc, drop_more, reverse-append}
 use Rattle.std.proofs.lemmas.List.{reverse-reverse, length-append, length-reverse}
-use Rattle.problem_rules.specs.Problem.{Problem}
-use Rattle.problem_rules.specs.Each.{Each}
-use Rattle.problem_rules.specs.Validity.{IsValid}
-use Rattle.edit_rules.specs.Edit.{Edit}
-use Rattle.edit_rules.specs.Effect.{effect}
-use Rattle.edit_rules.specs.Fault.{Fault, fault_of, AreClear, checks}
-use Rattle.edit_rules.specs.Formed.{IsFormed}
-use Rattle.edit_rules.specs.Inverse.{inverse}
-use Rattle.edit_rules.specs.Script.{applied, undoing, CanApply, IsFirstFault}
-use Rattle.edit_laws.proofs.ValidLemmas.{edit_keeps_valid}
+use Rattle.edit_laws.specs.problem_rules.Problem.{Problem}
+use Rattle.edit_laws.specs.problem_rules.Each.{Each}
+use Rattle.edit_laws.specs.problem_rules.Validity.{IsValid}
+use Rattle.edit_laws.specs.edit_rules.Edit.{Edit}
+use Rattle.edit_laws.specs.edit_rules.Effect.{effect}
+use Rattle.edit_laws.specs.edit_rules.Fault.{Fault, fault_of, AreClear, checks}
+use Rattle.edit_laws.specs.edit_rules.Formed.{IsFormed}
+use Rattle.edit_laws.specs.edit_rules.Inverse.{inverse}
+use Rattle.edit_laws.specs.edit_rules.Script.{applied, undoing, CanApply, IsFirstFault}
+use Rattle.edit_laws.proofs.Cited.{edit_keeps_valid}
 use Rattle.edit_scripts.specs.declared.edit.Edit as scripts
 use Rattle.edit_scripts.specs.View.{edit_of}
-use Rattle.edit_rules.specs.declared.EditKind.{EditKind}
-use Rattle.edit_rules.specs.Meaning.{kind_of}
+use Rattle.edit_laws.specs.edit_rules.declared.EditKind.{EditKind}
+use Rattle.edit_laws.specs.edit_rules.Meaning.{kind_of}
 use Rattle.pns_edits.specs.Answer.{IsEdited}
 use Rattle.pns_edits.specs.Inverse.{edits_of, listed_of}
 use Rattle.pns_edits.specs.declared.inverse.Inverse.{Inverse}

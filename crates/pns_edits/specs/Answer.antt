@@ -1,18 +1,18 @@
 -- What the answers of this crate say of a name, of one edit and of a script.
 use Rattle.std.specs.Prelude.{◌≡◌, ◌<◌, ℕ, Bool, true, false, Option, Some, option_map, List}
 use Rattle.std.specs.Prelude.{Result, Ok, Err}
-use Rattle.problem_rules.specs.Problem.{Problem}
-use Rattle.edit_rules.specs.Edit.{Edit, Script}
-use Rattle.edit_rules.specs.Effect.{effect}
-use Rattle.edit_rules.specs.Fault.{Fault, checks, fault_of, AreClear}
-use Rattle.edit_rules.specs.Inverse.{inverse}
-use Rattle.edit_rules.specs.declared.EditKind.{EditKind}
-use Rattle.edit_rules.specs.declared.EditKind.TheVariants.{UnknownName}
-use Rattle.edit_rules.specs.Meaning.{kind_of, HasFaultAt}
-use Rattle.text_lines.specs.declared.fault.LineFault.{LineFault}
-use Rattle.text_lines.specs.declared.fault.LineFault.TheVariants as edit
-use Rattle.text_lines.specs.declared.fault.TextFault.{TextFault}
-use Rattle.text_lines.specs.declared.fault.TextFault.TheVariants.{Memory, At}
+use Rattle.edit_laws.specs.problem_rules.Problem.{Problem}
+use Rattle.edit_laws.specs.edit_rules.Edit.{Edit, Script}
+use Rattle.edit_laws.specs.edit_rules.Effect.{effect}
+use Rattle.edit_laws.specs.edit_rules.Fault.{Fault, checks, fault_of, AreClear}
+use Rattle.edit_laws.specs.edit_rules.Inverse.{inverse}
+use Rattle.edit_laws.specs.edit_rules.declared.EditKind.{EditKind}
+use Rattle.edit_laws.specs.edit_rules.declared.EditKind.TheVariants.{UnknownName}
+use Rattle.edit_laws.specs.edit_rules.Meaning.{kind_of, HasFaultAt}
+use Rattle.edit_scripts.specs.text_lines.declared.fault.LineFault.{LineFault}
+use Rattle.edit_scripts.specs.text_lines.declared.fault.LineFault.TheVariants as edit
+use Rattle.edit_scripts.specs.text_lines.declared.fault.TextFault.{TextFault}
+use Rattle.edit_scripts.specs.text_lines.declared.fault.TextFault.TheVariants.{Memory, At}
 use Rattle.pns_edits.specs.Inverse.{edits_of}
 use Rattle.pns_edits.specs.declared.inverse.Inverse.{Inverse}
 

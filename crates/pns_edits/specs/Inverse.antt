@@ -1,6 +1,6 @@
 -- The edits that undo one edit, as they are returned.
 use Rattle.std.specs.Prelude.{List, [], ◌∷◌, Option, Some, None}
-use Rattle.edit_rules.specs.Edit as rules
+use Rattle.edit_laws.specs.edit_rules.Edit as rules
 use Rattle.edit_scripts.specs.View.{edit_of}
 use Rattle.edit_scripts.specs.declared.edit.Edit.{Edit}
 use Rattle.pns_edits.specs.declared.inverse.Inverse.{Inverse}

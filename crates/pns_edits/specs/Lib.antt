@@ -3,3 +3,4 @@ pub mod Inverse
 pub mod Migrate
 pub mod Renumbering
 pub mod Terms
+pub use Rattle.edit_laws.specs as edit_laws

@@ -1,7 +1,7 @@
 -- What an answer of the call `migrate` says.
 use Rattle.std.specs.Prelude.{◌≡◌, ℕ, true, false, Some, pos}
-use Rattle.problem_rules.specs.Problem.{Problem}
-use Rattle.edit_rules.specs.Migration.{has_payout, out_of_range_at}
+use Rattle.edit_laws.specs.problem_rules.Problem.{Problem}
+use Rattle.edit_laws.specs.edit_rules.Migration.{has_payout, out_of_range_at}
 use Rattle.pns_edits.specs.declared.migration.MigrateFault.{MigrateFault}
 use Rattle.pns_edits.specs.declared.migration.MigrateFault.TheVariants.{HasPayout, OutOfRange}
 use Rattle.pns_edits.specs.declared.migration.MigrateFault.TheVariants.{Memory}

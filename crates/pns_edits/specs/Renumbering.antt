@@ -1,6 +1,6 @@
 -- The new numbers of items, after one was inserted or removed, as the rules have them.
 use Rattle.std.specs.Prelude.{ℕ}
-use Rattle.edit_rules.specs.Numbering.{up, down}
+use Rattle.edit_laws.specs.edit_rules.Numbering.{up, down}
 use Rattle.pns_edits.specs.declared.numbering.Renumbering.{Renumbering}
 use Rattle.pns_edits.specs.declared.numbering.Renumbering.TheVariants.{PutIn, TakenOut}
 

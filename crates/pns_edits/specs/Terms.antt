@@ -1,8 +1,8 @@
 -- The numbers in a problem are those of its items, and are small enough to be renumbered.
 use Rattle.std.specs.Prelude.{◌<◌, ◌≤◌, ℕ, List, length}
-use Rattle.problem_rules.specs.Problem.{Problem, Term, OperatingUnit, Exclusion}
-use Rattle.problem_rules.specs.Each.{Each}
-use Rattle.problem_rules.specs.WellFormed.{IsInRange}
+use Rattle.edit_laws.specs.problem_rules.Problem.{Problem, Term, OperatingUnit, Exclusion}
+use Rattle.edit_laws.specs.problem_rules.Each.{Each}
+use Rattle.edit_laws.specs.problem_rules.WellFormed.{IsInRange}
 
 abbrev pub AreTermsBelow : ℕ → List Term → Type 0
 AreTermsBelow limit terms = Each (λ (t : Term). t.material < limit) terms

@@ -1,8 +1,8 @@
 //! Edits of exclusions and of the payout period.
 ghost use Rattle.std.specs.Prelude.{◌≡◌, ◌<◌, IfOk, length, map, string_bytes};
-ghost use Rattle.problem_rules.specs.Problem.{exclusion_at};
-ghost use Rattle.edit_rules.specs.Edit.{exclude, unexclude, payout};
-ghost use Rattle.edit_rules.specs.Place.{member_names};
+ghost use Rattle.edit_laws.specs.problem_rules.Problem.{exclusion_at};
+ghost use Rattle.edit_laws.specs.edit_rules.Edit.{exclude, unexclude, payout};
+ghost use Rattle.edit_laws.specs.edit_rules.Place.{member_names};
 ghost use Rattle.edit_scripts.specs.View.{edit_of};
 ghost use Rattle.pns_edits.specs.Answer.{Answers, IsEdited};
 ghost use Rattle.pns_edits.specs.Inverse.{edits_of};
@@ -12,8 +12,7 @@ use crate::fault::refuse_if;
 use crate::inverse::Inverse;
 use crate::members::{member_names, members};
 use crate::place::exclusion_place;
-use edit_scripts::{Edit, EditKind, LineFault};
-use pns_problem::{Exclusion, Parts};
+use edit_scripts::{Edit, EditKind, Exclusion, LineFault, Parts};
 use std::alloc::{AllocError, Global};
 use std::mem;
 

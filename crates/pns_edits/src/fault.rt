@@ -1,6 +1,6 @@
 //! Tests that an edit has to pass.
 ghost use Rattle.std.specs.Prelude.{◌≡◌, true, false, OnOk, IfErr};
-ghost use Rattle.text_lines.specs.declared.fault.LineFault.TheVariants.{Kind};
+ghost use Rattle.edit_scripts.specs.text_lines.declared.fault.LineFault.TheVariants.{Kind};
 
 use edit_scripts::{EditKind, LineFault};
 

@@ -24,5 +24,7 @@ mod script;
 mod terms;
 mod unit;
 
+pub use edit_laws::{printed_scripts_read, scripts_are_undone};
+pub use edit_scripts::{EditFault, EditKind, Script, print_script, read_script};
 pub use migration::{MigrateFault, migrate};
 pub use script::apply;

@@ -1,12 +1,13 @@
 //! Edits of materials.
 ghost use Rattle.std.specs.Prelude.{◌≡◌, ◌<◌, ◌≤◌, OnOk, IfOk, length, string_bytes};
-ghost use Rattle.problem_rules.specs.Each.{Each};
-ghost use Rattle.problem_rules.specs.Problem.{material_at};
-ghost use Rattle.problem_rules.specs.Validity.{has_product};
-ghost use Rattle.edit_rules.specs.Edit.{price, bounds, kind, rename_material, add_material};
-ghost use Rattle.edit_rules.specs.Edit.{remove_material};
-ghost use Rattle.pns_problem.specs.Kind.{kind_of};
-ghost use Rattle.edit_rules.specs.Effect.{material_put_in, material_taken_out};
+ghost use Rattle.edit_laws.specs.problem_rules.Each.{Each};
+ghost use Rattle.edit_laws.specs.problem_rules.Problem.{material_at};
+ghost use Rattle.edit_laws.specs.problem_rules.Validity.{has_product};
+ghost use Rattle.edit_laws.specs.edit_rules.Edit.{price, bounds, kind, rename_material};
+ghost use Rattle.edit_laws.specs.edit_rules.Edit.{add_material};
+ghost use Rattle.edit_laws.specs.edit_rules.Edit.{remove_material};
+ghost use Rattle.edit_scripts.specs.pns_problem.Kind.{kind_of};
+ghost use Rattle.edit_laws.specs.edit_rules.Effect.{material_put_in, material_taken_out};
 ghost use Rattle.edit_scripts.specs.View.{edit_of};
 ghost use Rattle.pns_edits.specs.Answer.{Answers};
 ghost use Rattle.pns_edits.specs.Terms.{IsNumbered, IsUnitBelow};
@@ -15,8 +16,7 @@ use crate::fault::refuse_if;
 use crate::inverse::Inverse;
 use crate::numbering::{Renumbering, any_unit_has, renumber_units};
 use crate::place::material_place;
-use edit_scripts::{Edit, EditKind, LineFault};
-use pns_problem::{Kind, Material, Parts};
+use edit_scripts::{Edit, EditKind, Kind, LineFault, Material, Parts};
 use std::alloc::AllocError;
 use std::mem;
 

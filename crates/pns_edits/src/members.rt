@@ -3,16 +3,15 @@ ghost use Rattle.std.specs.Prelude.{◌≡◌, ◌≤◌, false, Some, None, OnO
 ghost use Rattle.std.specs.Prelude.{length};
 ghost use Rattle.std.specs.Prelude.{cond};
 ghost use Rattle.std.specs.Prelude.{map, string_bytes};
-ghost use Rattle.number_sets.specs.Sets.{has, listed};
-ghost use Rattle.edit_rules.specs.Place.{unit_place, lacks_unit, members, member_names};
-ghost use Rattle.edit_rules.specs.Fault.{unknown_name};
+ghost use Rattle.edit_laws.specs.number_sets.Sets.{has, listed};
+ghost use Rattle.edit_laws.specs.edit_rules.Place.{unit_place, lacks_unit, members, member_names};
+ghost use Rattle.edit_laws.specs.edit_rules.Fault.{unknown_name};
 ghost use Rattle.pns_edits.specs.Answer.{Tells};
 ghost use Rattle.pns_edits.specs.Terms.{AreNumbersBelow};
 
 use crate::numbering::has_number;
 use crate::place::unit_place;
-use edit_scripts::LineFault;
-use pns_problem::Parts;
+use edit_scripts::{LineFault, Parts};
 use std::alloc::{AllocError, Global};
 
 fn unit_places(alloc: Global, parts: &Parts, names: &[String]) -> Result<Vec<u32>, LineFault>

@@ -2,15 +2,15 @@
 ghost use Rattle.std.specs.Prelude.{◌≡◌, ◌≤◌, ◌*ℤ◌, ◌++◌, not, false, None, OnOk, IfOk, IfErr};
 ghost use Rattle.std.specs.Prelude.{length, map, pos};
 ghost use Rattle.std.specs.List.{list_any, position_from};
-ghost use Rattle.problem_rules.specs.Problem.{OperatingUnit};
-ghost use Rattle.problem_rules.specs.WellFormed.{IsInRange};
-ghost use Rattle.edit_rules.specs.Edit.{investment};
-ghost use Rattle.edit_rules.specs.Formed.{script_of};
-ghost use Rattle.edit_rules.specs.Inverse.{costs_no_investment};
-ghost use Rattle.edit_rules.specs.Migration.{has_payout, costs_nothing_yearly};
-ghost use Rattle.edit_rules.specs.Migration.{migrates_out_of_range, out_of_range_at};
-ghost use Rattle.edit_rules.specs.Migration.{unit_migration, migration};
-ghost use Rattle.edit_rules.specs.Script.{applied, CanApply};
+ghost use Rattle.edit_laws.specs.problem_rules.Problem.{OperatingUnit};
+ghost use Rattle.edit_laws.specs.problem_rules.WellFormed.{IsInRange};
+ghost use Rattle.edit_laws.specs.edit_rules.Edit.{investment};
+ghost use Rattle.edit_laws.specs.edit_rules.Formed.{script_of};
+ghost use Rattle.edit_laws.specs.edit_rules.Inverse.{costs_no_investment};
+ghost use Rattle.edit_laws.specs.edit_rules.Migration.{has_payout, costs_nothing_yearly};
+ghost use Rattle.edit_laws.specs.edit_rules.Migration.{migrates_out_of_range, out_of_range_at};
+ghost use Rattle.edit_laws.specs.edit_rules.Migration.{unit_migration, migration};
+ghost use Rattle.edit_laws.specs.edit_rules.Script.{applied, CanApply};
 ghost use Rattle.edit_scripts.specs.View.{edit_of};
 ghost use Rattle.edit_laws.specs.MigrationLaws.{IsMigrated};
 ghost use Rattle.pns_edits.specs.Migrate.{TellsMigration};
@@ -18,8 +18,7 @@ ghost use Rattle.pns_edits.specs.Terms.{AreYearlyInRange, AreAllYearlyInRange};
 
 use crate::unit::costs_no_investment;
 use edit_laws::{migration_keeps_flows, migrations_apply, migrations_are_formed};
-use edit_scripts::{Edit, Script};
-use pns_problem::{OperatingUnit, Problem};
+use edit_scripts::{Edit, OperatingUnit, Problem, Script};
 use std::alloc::{AllocError, Global};
 
 /// Why a problem is not migrated.

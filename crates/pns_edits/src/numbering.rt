@@ -1,15 +1,16 @@
 //! Numbers of materials and units after one was inserted or removed.
 ghost use Rattle.std.specs.Prelude.{◌≡◌, ◌<◌, map};
-ghost use Rattle.number_sets.specs.Sets.{has};
-ghost use Rattle.problem_rules.specs.Each.{Each};
-ghost use Rattle.problem_rules.specs.Problem.{terms_have};
-ghost use Rattle.edit_rules.specs.Numbering.{in_term, in_unit, in_exclusion, any_unit_has};
-ghost use Rattle.edit_rules.specs.Numbering.{any_excludes};
+ghost use Rattle.edit_laws.specs.number_sets.Sets.{has};
+ghost use Rattle.edit_laws.specs.problem_rules.Each.{Each};
+ghost use Rattle.edit_laws.specs.problem_rules.Problem.{terms_have};
+ghost use Rattle.edit_laws.specs.edit_rules.Numbering.{in_term, in_unit, in_exclusion};
+ghost use Rattle.edit_laws.specs.edit_rules.Numbering.{any_unit_has};
+ghost use Rattle.edit_laws.specs.edit_rules.Numbering.{any_excludes};
 ghost use Rattle.pns_edits.specs.Renumbering.{new_number};
 ghost use Rattle.pns_edits.specs.Terms.{AreTermsBelow, IsUnitBelow, AreNumbersBelow};
 ghost use Rattle.pns_edits.specs.Terms.{IsExclusionBelow};
 
-use pns_problem::{Exclusion, OperatingUnit, Term};
+use edit_scripts::{Exclusion, OperatingUnit, Term};
 
 /// The place at which an item was inserted, or from which it was removed. The items after it have
 /// new numbers.

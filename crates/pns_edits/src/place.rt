@@ -1,11 +1,11 @@
 //! The places of names among materials, operating units and exclusions, counted from 0.
 ghost use Rattle.std.specs.Prelude.{length, string_bytes};
-ghost use Rattle.edit_rules.specs.Place.{material_place, unit_place, exclusion_place, has_material};
-ghost use Rattle.edit_rules.specs.Place.{has_unit, has_exclusion};
+ghost use Rattle.edit_laws.specs.edit_rules.Place.{material_place, unit_place, exclusion_place};
+ghost use Rattle.edit_laws.specs.edit_rules.Place.{has_material};
+ghost use Rattle.edit_laws.specs.edit_rules.Place.{has_unit, has_exclusion};
 ghost use Rattle.pns_edits.specs.Answer.{Finds};
 
-use edit_scripts::{EditKind, LineFault};
-use pns_problem::Parts;
+use edit_scripts::{EditKind, LineFault, Parts};
 
 pub(crate) fn material_place(parts: &Parts, name: &String) -> Result<usize, LineFault>
     ensures { Finds (has_material parts.now (string_bytes name.now))

@@ -1,8 +1,8 @@
 //! Edits and whole scripts, applied.
 ghost use Rattle.std.specs.Prelude.{◌≡◌, ◌<◌, OnOk, IfOk, IfErr, length, map};
-ghost use Rattle.problem_rules.specs.Validity.{IsValid};
-ghost use Rattle.edit_rules.specs.Formed.{script_of};
-ghost use Rattle.edit_rules.specs.Script.{applied, undoing, CanApply, LeadsTo};
+ghost use Rattle.edit_laws.specs.problem_rules.Validity.{IsValid};
+ghost use Rattle.edit_laws.specs.edit_rules.Formed.{script_of};
+ghost use Rattle.edit_laws.specs.edit_rules.Script.{applied, undoing, CanApply, LeadsTo};
 ghost use Rattle.edit_scripts.specs.View.{edit_of};
 ghost use Rattle.pns_edits.specs.Answer.{Answers, TellsFirst};
 ghost use Rattle.pns_edits.specs.Terms.{IsNumbered};
@@ -10,8 +10,7 @@ ghost use Rattle.pns_edits.specs.Terms.{IsNumbered};
 use crate::inverse::{Inverse, push_inverse};
 use crate::{exclusion, material, unit};
 use edit_laws::scripts_are_undone;
-use edit_scripts::{Edit, EditFault, LineFault, Script};
-use pns_problem::{Parts, Problem};
+use edit_scripts::{Edit, EditFault, LineFault, Parts, Problem, Script};
 use std::alloc::Global;
 
 /// Applies one edit, and gives the edits that undo it.

@@ -1,13 +1,12 @@
 //! Terms with their materials by name and by number.
 ghost use Rattle.std.specs.Prelude.{◌≡◌, ◌≤◌, false, Some, None, OnOk, IfOk, IfErr, length, cond};
-ghost use Rattle.edit_rules.specs.Place.{numbered_terms, named_terms, lacks_material};
-ghost use Rattle.edit_rules.specs.Fault.{unknown_name};
+ghost use Rattle.edit_laws.specs.edit_rules.Place.{numbered_terms, named_terms, lacks_material};
+ghost use Rattle.edit_laws.specs.edit_rules.Fault.{unknown_name};
 ghost use Rattle.pns_edits.specs.Answer.{Tells};
 ghost use Rattle.pns_edits.specs.Terms.{AreTermsBelow};
 
 use crate::place::material_place;
-use edit_scripts::{LineFault, NamedTerm};
-use pns_problem::{Parts, Term};
+use edit_scripts::{LineFault, NamedTerm, Parts, Term};
 use std::alloc::{AllocError, Global};
 
 /// The terms with their materials by number, if the parts have them all.

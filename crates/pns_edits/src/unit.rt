@@ -1,13 +1,13 @@
 //! Edits of operating units.
 ghost use Rattle.std.specs.Prelude.{◌≡◌, ◌<◌, ◌≤◌, OnOk, IfOk, length, string_bytes};
-ghost use Rattle.problem_rules.specs.Each.{Each};
-ghost use Rattle.problem_rules.specs.Problem.{unit_at};
-ghost use Rattle.edit_rules.specs.Edit.{capacity, fix, proportional, rename_unit};
-ghost use Rattle.edit_rules.specs.Edit.{add_unit};
-ghost use Rattle.edit_rules.specs.Edit.{remove_unit, investment};
-ghost use Rattle.edit_rules.specs.Place.{named_terms};
-ghost use Rattle.edit_rules.specs.Effect.{unit_put_in, unit_taken_out};
-ghost use Rattle.edit_rules.specs.Inverse.{costs_no_investment, investment_of};
+ghost use Rattle.edit_laws.specs.problem_rules.Each.{Each};
+ghost use Rattle.edit_laws.specs.problem_rules.Problem.{unit_at};
+ghost use Rattle.edit_laws.specs.edit_rules.Edit.{capacity, fix, proportional, rename_unit};
+ghost use Rattle.edit_laws.specs.edit_rules.Edit.{add_unit};
+ghost use Rattle.edit_laws.specs.edit_rules.Edit.{remove_unit, investment};
+ghost use Rattle.edit_laws.specs.edit_rules.Place.{named_terms};
+ghost use Rattle.edit_laws.specs.edit_rules.Effect.{unit_put_in, unit_taken_out};
+ghost use Rattle.edit_laws.specs.edit_rules.Inverse.{costs_no_investment, investment_of};
 ghost use Rattle.edit_scripts.specs.View.{edit_of};
 ghost use Rattle.pns_edits.specs.Answer.{Answers};
 ghost use Rattle.pns_edits.specs.Inverse.{listed_of};
@@ -18,8 +18,7 @@ use crate::inverse::Inverse;
 use crate::numbering::{Renumbering, any_excludes, renumber_exclusions};
 use crate::place::unit_place;
 use crate::terms::{named_terms, numbered_terms};
-use edit_scripts::{Edit, EditKind, LineFault, NamedTerm};
-use pns_problem::{OperatingUnit, Parts};
+use edit_scripts::{Edit, EditKind, LineFault, NamedTerm, OperatingUnit, Parts};
 use std::alloc::{AllocError, Global};
 use std::mem;
 

@@ -2,12 +2,13 @@
 use Rattle.std.proofs.Common.{◌≡◌, ℕ, ◌+◌, ◌≤◌, List, [], ◌∷◌, ◌++◌, length, codes, sym, ap, ◌∙◌}
 use Rattle.std.proofs.Common.{arith}
 use Rattle.std.proofs.lemmas.Grind.{flat_map-append}
-use Rattle.problem_rules.specs.Problem.{Problem, OperatingUnit, Exclusion}
-use Rattle.problem_rules.specs.Each.{Each}
-use Rattle.problem_rules.specs.Validity.{IsValid}
-use Rattle.problem_rules.specs.WellFormed.{IsWellFormedUnit, IsWellFormedExclusion, AreRisingFrom}
-use Rattle.problem_rules.proofs.ValidLemmas.{well_formed_from_valid}
-use Rattle.problem_rules.proofs.TermLemmas.{not_empty, materials_known}
+use Rattle.text_rules.specs.problem_rules.Problem.{Problem, OperatingUnit, Exclusion}
+use Rattle.text_rules.specs.problem_rules.Each.{Each}
+use Rattle.text_rules.specs.problem_rules.Validity.{IsValid}
+use Rattle.text_rules.specs.problem_rules.WellFormed.{IsWellFormedUnit, IsWellFormedExclusion}
+use Rattle.text_rules.specs.problem_rules.WellFormed.{AreRisingFrom}
+use Rattle.text_rules.proofs.problem_rules.Cited.{well_formed_from_valid, not_empty}
+use Rattle.text_rules.proofs.problem_rules.Cited.{materials_known}
 use Rattle.text_rules.specs.Canonical.{canonical, payout_lines, section_lines, material_lines}
 use Rattle.text_rules.specs.Canonical.{unit_lines, rates_lines, exclusion_lines, exclusion_section}
 use Rattle.pns_problem.specs.Printing.{printed, IsPrintable, AreKnown, HasKnownMembers}

@@ -1,7 +1,7 @@
 -- Draws in a row.
 use Rattle.std.proofs.Common.{◌≡◌, ℕ, zero, suc, ◌+◌, ◌*◌, ◌<◌, ap, ◌∙◌, arith}
 use Rattle.std.proofs.Math.Nat.{mod-lt}
-use Rattle.problem_rules.specs.Draws.{next_state, state_after, drawn}
+use Rattle.text_rules.specs.problem_rules.Draws.{next_state, state_after, drawn}
 
 pub state_after-add : (m n state : ℕ)
     → state_after (m + n) state ≡ state_after n (state_after m state)

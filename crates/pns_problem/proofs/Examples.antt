@@ -3,8 +3,8 @@ use Rattle.std.proofs.Common.{◌≡◌, ℕ, List, [], ◌∷◌, ◌++◌, map
 use Rattle.std.specs.Fmt.{digits}
 use Rattle.std.specs.List.{range_with_len}
 use Rattle.text_rules.specs.Canonical.{canonical}
-use Rattle.problem_rules.specs.Draws.{first_state, next_state, state_after}
-use Rattle.problem_rules.specs.Generated.{generated}
+use Rattle.text_rules.specs.problem_rules.Draws.{first_state, next_state, state_after}
+use Rattle.text_rules.specs.problem_rules.Generated.{generated}
 
 states : map (λ draws. state_after draws (first_state 0)) (range_with_len 1 18)
     ≡ 74 ∷ 5624 ∷ 28652 ∷ 51790 ∷ 17641 ∷ 12409 ∷ 13231 ∷ 9344 ∷ 45504 ∷ 4950 ∷ 43639 ∷ 61686

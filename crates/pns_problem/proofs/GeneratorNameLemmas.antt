@@ -8,10 +8,11 @@ use Rattle.std.specs.Str.{bytes_eq}
 use Rattle.std.proofs.lemmas.Bool.{or_from, false_from_ne_true, agree_below_at}
 use Rattle.std.proofs.lemmas.Slice.Eq.{bytes_eq-Decides}
 use Rattle.std.proofs.lemmas.Fmt.{decimal_injective}
-use Rattle.problem_rules.specs.Problem.{Material, material_names, unit_names}
-use Rattle.problem_rules.specs.Names.{is_name, is_among, has_double}
-use Rattle.problem_rules.specs.Generated.{numbered, intermediate_of, end_product, materials_of}
-use Rattle.problem_rules.specs.Generated.{unit_in_turn, units_of}
+use Rattle.text_rules.specs.problem_rules.Problem.{Material, material_names, unit_names}
+use Rattle.text_rules.specs.problem_rules.Names.{is_name, is_among, has_double}
+use Rattle.text_rules.specs.problem_rules.Generated.{numbered, intermediate_of, end_product}
+use Rattle.text_rules.specs.problem_rules.Generated.{materials_of}
+use Rattle.text_rules.specs.problem_rules.Generated.{unit_in_turn, units_of}
 
 -- ---- names
 

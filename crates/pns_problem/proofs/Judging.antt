@@ -1,9 +1,10 @@
 -- How far the items are judged: the number of the next item, the names so far, and that the fault
 -- of the rest is that of all items.
 use Rattle.std.proofs.Common.{◌≡◌, ℕ, List, [], ◌++◌, drop}
-use Rattle.problem_rules.specs.Problem.{Material, OperatingUnit, Exclusion, material_names}
-use Rattle.problem_rules.specs.Problem.{unit_names}
-use Rattle.problem_rules.specs.Validity.{materials_fault, units_fault, exclusions_fault}
+use Rattle.text_rules.specs.problem_rules.Problem.{Material, OperatingUnit, Exclusion}
+use Rattle.text_rules.specs.problem_rules.Problem.{material_names}
+use Rattle.text_rules.specs.problem_rules.Problem.{unit_names}
+use Rattle.text_rules.specs.problem_rules.Validity.{materials_fault, units_fault, exclusions_fault}
 
 pub record AreMaterialsJudged (materials : List Material) (k : ℕ) (before : List (List ℕ))
     (at : ℕ) : Type 0 where

@@ -1,4 +1,5 @@
 pub mod CanonicalLemmas
+pub mod Cited
 pub mod DrawLemmas
 pub mod Examples
 pub mod GeneratorNameLemmas

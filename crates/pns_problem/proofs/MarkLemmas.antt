@@ -7,8 +7,9 @@ use Rattle.std.proofs.lemmas.List.{length-set, length-replicate}
 use Rattle.std.proofs.lemmas.Grind.{take_at_read}
 use Rattle.std.proofs.lemmas.Bool.{or_parts, leb-false, eqb-true, eqb-false, eq-eqb, ne_eqb}
 use Rattle.std.proofs.Math.Bool.{or-false, or-true, or_assoc}
-use Rattle.problem_rules.specs.Problem.{Term, terms_have}
-use Rattle.problem_rules.specs.Validity.{names_no_material, repeats_material, shares_material}
+use Rattle.text_rules.specs.problem_rules.Problem.{Term, terms_have}
+use Rattle.text_rules.specs.problem_rules.Validity.{names_no_material, repeats_material}
+use Rattle.text_rules.specs.problem_rules.Validity.{shares_material}
 use Rattle.pns_problem.specs.Marks.{AreMarks}
 
 -- `k` terms are marked, and the rest are known

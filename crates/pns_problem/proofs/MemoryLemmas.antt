@@ -1,6 +1,6 @@
 -- A refusal of parts that have no fault is out of memory.
 use Rattle.std.proofs.Common.{◌≡◌, true, Option, None, refl, ◌∙◌}
-use Rattle.problem_rules.specs.Validity.{Refusal}
+use Rattle.text_rules.specs.problem_rules.Validity.{Refusal}
 use Rattle.pns_problem.specs.Fault.{Tells, is_memory}
 use Rattle.pns_problem.specs.declared.fault.BuildFault.{BuildFault}
 use Rattle.pns_problem.specs.declared.fault.BuildFault.TheVariants.{TooManyMaterials, TooManyUnits}

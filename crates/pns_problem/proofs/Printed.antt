@@ -1,8 +1,8 @@
 -- How far a list is printed: the items that remain complete the text.
 use Rattle.std.proofs.Common.{◌≡◌, ◌++◌, ℕ, List, false, drop, map}
-use Rattle.problem_rules.specs.Problem.{Term}
-use Rattle.problem_rules.specs.Each.{Each}
-use Rattle.problem_rules.specs.Validity.{names_no_material}
+use Rattle.text_rules.specs.problem_rules.Problem.{Term}
+use Rattle.text_rules.specs.problem_rules.Each.{Each}
+use Rattle.text_rules.specs.problem_rules.Validity.{names_no_material}
 use Rattle.text_rules.specs.Canonical.{name_at}
 use Rattle.pns_problem.specs.Printing.{printed, further_items, further_terms, AreKnown}
 

@@ -4,8 +4,8 @@ use Rattle.std.proofs.Common.{◌∷◌, ◌++◌, map, length, take, drop, get_
 use Rattle.std.proofs.Common.{◌∙◌, append_assoc, arith}
 use Rattle.std.specs.Prelude.{unsigned_abs, ◌==◌, ℤ, decimal}
 use Rattle.std.proofs.lemmas.List.{append-nil, take_all, drop_more}
-use Rattle.problem_rules.specs.Problem.{Term, OperatingUnit}
-use Rattle.problem_rules.specs.Validity.{is_empty}
+use Rattle.text_rules.specs.problem_rules.Problem.{Term, OperatingUnit}
+use Rattle.text_rules.specs.problem_rules.Validity.{is_empty}
 use Rattle.text_rules.specs.Printed.{amount_bytes}
 use Rattle.text_rules.specs.Canonical.{joined, spaced, named, item_line, field, term_tokens}
 use Rattle.text_rules.specs.Canonical.{token_text, side_tokens, rates_tokens, name_at, payout_lines}

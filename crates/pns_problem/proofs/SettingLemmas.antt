@@ -2,9 +2,10 @@
 -- it is valid.
 use Rattle.std.proofs.Common.{◌≡◌, ℕ, zero, suc, List, [], ◌∷◌, slice_index_or, slice_set, refl}
 use Rattle.std.proofs.Common.{sym, ap, ◌∙◌, subst}
-use Rattle.problem_rules.specs.Problem.{Problem, Material, OperatingUnit, no_material, no_unit}
-use Rattle.problem_rules.specs.Problem.{material_at, unit_at, material_names, unit_names}
-use Rattle.problem_rules.specs.Validity.{IsValid}
+use Rattle.text_rules.specs.problem_rules.Problem.{Problem, Material, OperatingUnit, no_material}
+use Rattle.text_rules.specs.problem_rules.Problem.{no_unit}
+use Rattle.text_rules.specs.problem_rules.Problem.{material_at, unit_at, material_names, unit_names}
+use Rattle.text_rules.specs.problem_rules.Validity.{IsValid}
 use Rattle.pns_problem.specs.Built.{IsBuilt}
 
 materials_named : (ms : List Material) (x : ℕ) (new : Material)

@@ -7,17 +7,21 @@ use Rattle.std.specs.List.{range_with_len}
 use Rattle.std.proofs.lemmas.Bool.{or_from, le-ltb, lt-ltb, ne_eqb, eqb-false, cond_both}
 use Rattle.std.proofs.lemmas.List.FromFn.{length-map-range_with_len}
 use Rattle.std.proofs.Math.Nat.{mod-lt}
-use Rattle.problem_rules.specs.Problem.{Material, OperatingUnit, Exclusion}
-use Rattle.problem_rules.specs.Each.{Each}
-use Rattle.problem_rules.specs.Validity.{has_product, IsValid, shares_material}
-use Rattle.problem_rules.specs.WellFormed.{IsInRange, IsBound, AreBounds, IsWellFormedMaterial}
-use Rattle.problem_rules.specs.WellFormed.{IsWellFormedTerm, IsWellFormedSide, IsWellFormedUnit}
-use Rattle.problem_rules.specs.WellFormed.{IsWellFormed}
-use Rattle.problem_rules.specs.Draws.{first_state, state_after, drawn}
-use Rattle.problem_rules.specs.Generated.{whole, raw_of, intermediate_of, end_product}
-use Rattle.problem_rules.specs.Generated.{raw_materials, intermediates, materials_of, target, stage}
-use Rattle.problem_rules.specs.Generated.{input, term, unit, unit_in_turn, units_of, chain_length}
-use Rattle.problem_rules.specs.Generated.{generated}
+use Rattle.text_rules.specs.problem_rules.Problem.{Material, OperatingUnit, Exclusion}
+use Rattle.text_rules.specs.problem_rules.Each.{Each}
+use Rattle.text_rules.specs.problem_rules.Validity.{has_product, IsValid, shares_material}
+use Rattle.text_rules.specs.problem_rules.WellFormed.{IsInRange, IsBound, AreBounds}
+use Rattle.text_rules.specs.problem_rules.WellFormed.{IsWellFormedMaterial}
+use Rattle.text_rules.specs.problem_rules.WellFormed.{IsWellFormedTerm, IsWellFormedSide}
+use Rattle.text_rules.specs.problem_rules.WellFormed.{IsWellFormedUnit}
+use Rattle.text_rules.specs.problem_rules.WellFormed.{IsWellFormed}
+use Rattle.text_rules.specs.problem_rules.Draws.{first_state, state_after, drawn}
+use Rattle.text_rules.specs.problem_rules.Generated.{whole, raw_of, intermediate_of, end_product}
+use Rattle.text_rules.specs.problem_rules.Generated.{raw_materials, intermediates, materials_of}
+use Rattle.text_rules.specs.problem_rules.Generated.{target, stage}
+use Rattle.text_rules.specs.problem_rules.Generated.{input, term, unit, unit_in_turn, units_of}
+use Rattle.text_rules.specs.problem_rules.Generated.{chain_length}
+use Rattle.text_rules.specs.problem_rules.Generated.{generated}
 use Rattle.pns_problem.proofs.DrawLemmas.{drawn-lt}
 use Rattle.pns_problem.proofs.GeneratorNameLemmas.{intermediate_is_name, raw_is_name, unit_is_name}
 use Rattle.pns_problem.proofs.GeneratorNameLemmas.{units_apart, materials_apart}

@@ -1,7 +1,7 @@
 -- The canonical texts of two problems, as the definition gives them, byte for byte.
 use Rattle.std.proofs.Common.{◌≡◌, [], ◌∷◌, ◌++◌, refl, codes, pos}
 use Rattle.std.specs.Fmt.{digits}
-use Rattle.problem_rules.specs.Problem.{Problem, raw_material, intermediate, product}
+use Rattle.text_rules.specs.problem_rules.Problem.{Problem, raw_material, intermediate, product}
 use Rattle.text_rules.specs.Canonical.{canonical}
 
 five_units : Problem

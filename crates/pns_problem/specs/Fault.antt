@@ -1,9 +1,12 @@
 -- The refusals of parts, as the rules name them, and what an answer says of the first fault.
 use Rattle.std.specs.Prelude.{◌≡◌, Bool, true, false, Option, Some, None, Result, Ok, Err}
-use Rattle.problem_rules.specs.Validity.{Refusal, too_many_materials, too_many_units, bad_name}
-use Rattle.problem_rules.specs.Validity.{double_name, out_of_range, low_above_high, sign}
-use Rattle.problem_rules.specs.Validity.{no_material, double_term, both_sides, empty_side}
-use Rattle.problem_rules.specs.Validity.{no_product, too_many_exclusions, bad_exclusion, bad_payout}
+use Rattle.text_rules.specs.problem_rules.Validity.{Refusal, too_many_materials, too_many_units}
+use Rattle.text_rules.specs.problem_rules.Validity.{bad_name}
+use Rattle.text_rules.specs.problem_rules.Validity.{double_name, out_of_range, low_above_high, sign}
+use Rattle.text_rules.specs.problem_rules.Validity.{no_material, double_term, both_sides}
+use Rattle.text_rules.specs.problem_rules.Validity.{empty_side}
+use Rattle.text_rules.specs.problem_rules.Validity.{no_product, too_many_exclusions, bad_exclusion}
+use Rattle.text_rules.specs.problem_rules.Validity.{bad_payout}
 use Rattle.pns_problem.specs.declared.fault.BuildFault.{BuildFault}
 use Rattle.pns_problem.specs.declared.fault.BuildFault.TheVariants.{TooManyMaterials, TooManyUnits}
 use Rattle.pns_problem.specs.declared.fault.BuildFault.TheVariants.{BadName, DoubleName, OutOfRange}

@@ -1,5 +1,5 @@
 -- The kinds of materials, as the rules name them.
-use Rattle.problem_rules.specs.Problem as rules
+use Rattle.text_rules.specs.problem_rules.Problem as rules
 use Rattle.pns_problem.specs.declared.material.Kind as kinds
 use Rattle.pns_problem.specs.declared.material.Kind.TheVariants.{RawMaterial, Intermediate, Product}
 

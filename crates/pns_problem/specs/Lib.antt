@@ -3,3 +3,4 @@ pub mod Fault
 pub mod Kind
 pub mod Marks
 pub mod Printing
+pub mod Unfolded

@@ -1,8 +1,8 @@
 -- The pieces of which the canonical text consists.
 use Rattle.std.specs.Prelude.{◌≡◌, ◌<◌, ℕ, false, List, [], ◌∷◌, ◌++◌, flat_map, map, length, codes}
 use Rattle.std.specs.Prelude.{ℤ, unsigned_abs, ◌==◌, if◌then◌else◌}
-use Rattle.problem_rules.specs.Problem.{Material, Term, OperatingUnit, Exclusion}
-use Rattle.problem_rules.specs.Validity.{names_no_material, is_empty}
+use Rattle.text_rules.specs.problem_rules.Problem.{Material, Term, OperatingUnit, Exclusion}
+use Rattle.text_rules.specs.problem_rules.Validity.{names_no_material, is_empty}
 use Rattle.text_rules.specs.Printed.{amount_bytes}
 use Rattle.text_rules.specs.Canonical.{field, field_unless_zero, name_at, item_line, material_items}
 use Rattle.text_rules.specs.Canonical.{unit_items, named, token_text, rates_tokens}

@@ -1,6 +1,6 @@
 //! Amounts in millionths: their range, and how they are printed.
 ghost use Rattle.std.specs.Prelude.{◌≡◌, ◌++◌, IfOk, OnOk, string_bytes};
-ghost use Rattle.problem_rules.specs.Validity.{is_out_of_range};
+ghost use Rattle.text_rules.specs.problem_rules.Validity.{is_out_of_range};
 ghost use Rattle.text_rules.specs.Printed.{digits, places, amount_bytes};
 
 use std::alloc::{AllocError, Global};

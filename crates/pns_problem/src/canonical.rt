@@ -2,8 +2,8 @@
 ghost use Rattle.std.specs.Prelude.{◌≡◌, ◌<◌, ◌++◌, OnOk, false, [], length};
 ghost use Rattle.std.specs.Prelude.{string_bytes};
 ghost use Rattle.std.specs.Prelude.{map};
-ghost use Rattle.problem_rules.specs.Problem.{material_names, unit_names};
-ghost use Rattle.problem_rules.specs.Validity.{names_no_material, is_empty, IsValid};
+ghost use Rattle.text_rules.specs.problem_rules.Problem.{material_names, unit_names};
+ghost use Rattle.text_rules.specs.problem_rules.Validity.{names_no_material, is_empty, IsValid};
 ghost use Rattle.text_rules.specs.Printed.{amount_bytes};
 ghost use Rattle.text_rules.specs.Canonical.{joined, spaced, field, field_unless_zero};
 ghost use Rattle.text_rules.specs.Canonical.{kind_word};
@@ -22,7 +22,7 @@ ghost use Rattle.pns_problem.specs.Printing.{unit_investment_proportional};
 ghost use Rattle.pns_problem.specs.Printing.{material_line, unit_line, rates_line};
 ghost use Rattle.pns_problem.specs.Printing.{exclusion_line};
 ghost use Rattle.pns_problem.specs.Printing.{IsPrintable, AreKnown, HasKnownMembers};
-ghost use Rattle.problem_rules.specs.Each.{Each};
+ghost use Rattle.text_rules.specs.problem_rules.Each.{Each};
 
 use crate::amount::push_amount;
 use crate::exclusion::Exclusion;

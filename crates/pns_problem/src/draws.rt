@@ -1,6 +1,6 @@
 //! Numbers drawn one after another.
 ghost use Rattle.std.specs.Prelude.{◌≡◌, ◌<◌, ◌%◌};
-ghost use Rattle.problem_rules.specs.Draws.{first_state, next_state};
+ghost use Rattle.text_rules.specs.problem_rules.Draws.{first_state, next_state};
 
 /// The state of the draws, below 65537.
 #[derive(Drop)]
@@ -18,7 +18,7 @@ impl Draws {
     }
 
     /// The next draw, a number below `limit`.
-    #[tactic(auto, unfolding(problem_rules::specs::Draws::next_state))]
+    #[tactic(auto, unfolding(crate::specs::Unfolded::next_state))]
     pub(crate) fn draw(&mut self, limit: u32) -> u32
         requires { 0 < limit }
         ensures advanced { self.new.state ≡ next_state self.old.state }

@@ -1,6 +1,6 @@
 //! Mutual exclusions, and the test by which they are judged.
 ghost use Rattle.std.specs.Prelude.{◌≡◌, IfOk};
-ghost use Rattle.problem_rules.specs.Validity.{breaks_rise, bad_members};
+ghost use Rattle.text_rules.specs.problem_rules.Validity.{breaks_rise, bad_members};
 
 use std::alloc::{AllocError, Global};
 use std::marker::Model;
@@ -14,7 +14,7 @@ pub struct Exclusion {
 
 impl Model for Exclusion {
     ghost use Rattle.std.specs.Prelude.{string_bytes};
-    ghost use Rattle.problem_rules.specs.Problem as rules;
+    ghost use Rattle.text_rules.specs.problem_rules.Problem as rules;
 
     ghost Value = { rules.Exclusion };
 

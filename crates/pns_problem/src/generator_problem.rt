@@ -1,14 +1,14 @@
 //! Generated problems.
 ghost use Rattle.std.specs.Prelude.{◌≡◌, ◌≤◌, IfOk};
-ghost use Rattle.problem_rules.specs.Validity.{IsValid};
-ghost use Rattle.problem_rules.specs.Generated.{generated, GeneratedIsValid};
+ghost use Rattle.text_rules.specs.problem_rules.Validity.{IsValid};
+ghost use Rattle.text_rules.specs.problem_rules.Generated.{generated, GeneratedIsValid};
 
 use crate::draws::Draws;
 use crate::materials::materials_of;
 use crate::units::units_of;
 use crate::{Parts, Problem};
-use problem_rules::valid_is_well_formed;
 use std::alloc::{AllocError, Global};
+use text_rules::valid_is_well_formed;
 
 /// The problem of this number with so many operating units, 1 to 128. The time is linear in the
 /// units. Only the last 16 bits of the number count. The only refusal is out of memory.

@@ -1,10 +1,13 @@
 //! The first fault of the parts of a problem, in one pass over them.
 ghost use Rattle.std.specs.Prelude.{◌≡◌, ◌≤◌, IfOk, IfErr, OnOk, None, [], length};
-ghost use Rattle.problem_rules.specs.Problem.{material_names, unit_names};
-ghost use Rattle.problem_rules.specs.Validity.{material_fault, materials_fault, unit_fault};
-ghost use Rattle.problem_rules.specs.Validity.{units_fault, exclusion_fault, exclusions_fault};
-ghost use Rattle.problem_rules.specs.Validity.{counts_fault, whole_fault, fault_of, is_bad_payout};
-ghost use Rattle.problem_rules.specs.Validity.{IsValid};
+ghost use Rattle.text_rules.specs.problem_rules.Problem.{material_names, unit_names};
+ghost use Rattle.text_rules.specs.problem_rules.Validity.{material_fault, materials_fault};
+ghost use Rattle.text_rules.specs.problem_rules.Validity.{unit_fault};
+ghost use Rattle.text_rules.specs.problem_rules.Validity.{units_fault, exclusion_fault};
+ghost use Rattle.text_rules.specs.problem_rules.Validity.{exclusions_fault};
+ghost use Rattle.text_rules.specs.problem_rules.Validity.{counts_fault, whole_fault, fault_of};
+ghost use Rattle.text_rules.specs.problem_rules.Validity.{is_bad_payout};
+ghost use Rattle.text_rules.specs.problem_rules.Validity.{IsValid};
 ghost use Rattle.pns_problem.specs.Fault.{Tells, Judges};
 
 use crate::exclusion::Exclusion;

@@ -1,8 +1,8 @@
 //! Materials, and the tests by which they are judged.
 ghost use Rattle.std.specs.Prelude.{◌≡◌, IfOk, int_lt};
-ghost use Rattle.problem_rules.specs.Validity.{material_out_of_range, material_negative};
-ghost use Rattle.problem_rules.specs.Validity.{has_product};
-ghost use Rattle.problem_rules.specs.Problem.{is_product};
+ghost use Rattle.text_rules.specs.problem_rules.Validity.{material_out_of_range, material_negative};
+ghost use Rattle.text_rules.specs.problem_rules.Validity.{has_product};
+ghost use Rattle.text_rules.specs.problem_rules.Problem.{is_product};
 
 use crate::amount::is_out_of_range;
 use std::alloc::{AllocError, Global};
@@ -30,7 +30,7 @@ pub struct Material {
 
 impl Model for Material {
     ghost use Rattle.std.specs.Prelude.{string_bytes};
-    ghost use Rattle.problem_rules.specs.Problem as rules;
+    ghost use Rattle.text_rules.specs.problem_rules.Problem as rules;
     ghost use Rattle.pns_problem.specs.Kind.{kind_of};
 
     ghost Value = { rules.Material };

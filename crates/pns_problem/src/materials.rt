@@ -1,9 +1,11 @@
 //! The materials of a generated problem.
 ghost use Rattle.std.specs.Prelude.{◌≡◌, ◌++◌, IfOk, OnOk, string_bytes};
-ghost use Rattle.problem_rules.specs.Draws.{state_after};
-ghost use Rattle.problem_rules.specs.Generated.{numbered, whole, raw_priced, raw_materials};
-ghost use Rattle.problem_rules.specs.Generated.{intermediate_of, intermediates, end_product};
-ghost use Rattle.problem_rules.specs.Generated.{materials_of};
+ghost use Rattle.text_rules.specs.problem_rules.Draws.{state_after};
+ghost use Rattle.text_rules.specs.problem_rules.Generated.{numbered, whole, raw_priced};
+ghost use Rattle.text_rules.specs.problem_rules.Generated.{raw_materials};
+ghost use Rattle.text_rules.specs.problem_rules.Generated.{intermediate_of, intermediates};
+ghost use Rattle.text_rules.specs.problem_rules.Generated.{end_product};
+ghost use Rattle.text_rules.specs.problem_rules.Generated.{materials_of};
 
 use crate::draws::Draws;
 use crate::{Kind, Material};

@@ -1,7 +1,7 @@
 //! Names of materials, operating units and exclusions.
 ghost use Rattle.std.specs.Prelude.{◌≡◌};
 ghost use Rattle.std.specs.List.{list_all};
-ghost use Rattle.problem_rules.specs.Names.{is_name, begins_name, continues_name};
+ghost use Rattle.text_rules.specs.problem_rules.Names.{is_name, begins_name, continues_name};
 
 fn begins_name(c: u8) -> bool
     ensures { result ≡ begins_name c }

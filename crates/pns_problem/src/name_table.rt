@@ -2,7 +2,7 @@
 ghost use Rattle.std.specs.Prelude.{◌≡◌, ◌≤◌, ◌++◌, false, OnOk, [], ◌∷◌, length};
 ghost use Rattle.std.specs.List.{position};
 ghost use Rattle.std.specs.Str.{bytes_eq};
-ghost use Rattle.problem_rules.specs.Names.{is_among};
+ghost use Rattle.text_rules.specs.problem_rules.Names.{is_among};
 
 use indexmap::IndexSet;
 use std::alloc::{AllocError, Global};

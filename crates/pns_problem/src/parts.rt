@@ -1,6 +1,6 @@
 //! The parts from which a problem is built.
 ghost use Rattle.std.specs.Prelude.{◌≡◌, ◌<◌, IfOk, length, slice_set};
-ghost use Rattle.problem_rules.specs.Problem.{material_at, unit_at};
+ghost use Rattle.text_rules.specs.problem_rules.Problem.{material_at, unit_at};
 
 use crate::exclusion::{Exclusion, copy_exclusions};
 use crate::material::{Material, copy_materials};
@@ -18,7 +18,7 @@ pub struct Parts {
 }
 
 impl Model for Parts {
-    ghost use Rattle.problem_rules.specs.Problem as rules;
+    ghost use Rattle.text_rules.specs.problem_rules.Problem as rules;
 
     ghost Value = { rules.Problem };
 

@@ -2,11 +2,11 @@
 ghost use Rattle.std.specs.Prelude.{◌≡◌, ◌<◌, true, IfOk, IfErr, OnOk, length, slice_set};
 ghost use Rattle.std.specs.List.{position};
 ghost use Rattle.std.specs.Str.{bytes_eq};
-ghost use Rattle.problem_rules.specs.Problem.{material_at, unit_at, material_names};
-ghost use Rattle.problem_rules.specs.Problem.{unit_names};
-ghost use Rattle.problem_rules.specs.Validity.{fault_of, IsValid};
+ghost use Rattle.text_rules.specs.problem_rules.Problem.{material_at, unit_at, material_names};
+ghost use Rattle.text_rules.specs.problem_rules.Problem.{unit_names};
+ghost use Rattle.text_rules.specs.problem_rules.Validity.{fault_of, IsValid};
 ghost use Rattle.pns_problem.specs.Fault.{Tells, is_memory};
-ghost use Rattle.problem_rules.specs.WellFormed.{IsWellFormed};
+ghost use Rattle.text_rules.specs.problem_rules.WellFormed.{IsWellFormed};
 ghost use Rattle.text_rules.specs.Canonical.{canonical};
 
 use crate::canonical::push_problem;
@@ -30,7 +30,7 @@ pub struct Problem {
 }
 
 impl Model for Problem {
-    ghost use Rattle.problem_rules.specs.Problem as rules;
+    ghost use Rattle.text_rules.specs.problem_rules.Problem as rules;
     ghost use Rattle.pns_problem.specs.Built.{IsBuilt};
 
     ghost Value = { rules.Problem };

@@ -1,10 +1,11 @@
 //! Terms of one side of an operating unit, and the tests by which they are judged.
 ghost use Rattle.std.specs.Prelude.{◌≡◌, ◌≤◌, false, IfOk, int_lt, pos};
-ghost use Rattle.problem_rules.specs.Problem.{rates_of};
+ghost use Rattle.text_rules.specs.problem_rules.Problem.{rates_of};
 ghost use Rattle.pns_problem.specs.Marks.{AreMarks};
-ghost use Rattle.problem_rules.specs.Validity.{is_out_of_range, any_out_of_range, any_below_one};
-ghost use Rattle.problem_rules.specs.Validity.{names_no_material, repeats_material};
-ghost use Rattle.problem_rules.specs.Validity.{shares_material, is_empty};
+ghost use Rattle.text_rules.specs.problem_rules.Validity.{is_out_of_range, any_out_of_range};
+ghost use Rattle.text_rules.specs.problem_rules.Validity.{any_below_one};
+ghost use Rattle.text_rules.specs.problem_rules.Validity.{names_no_material, repeats_material};
+ghost use Rattle.text_rules.specs.problem_rules.Validity.{shares_material, is_empty};
 
 use crate::amount::is_out_of_range;
 use std::alloc::AllocError;
@@ -19,7 +20,7 @@ pub struct Term {
 }
 
 impl Model for Term {
-    ghost use Rattle.problem_rules.specs.Problem as rules;
+    ghost use Rattle.text_rules.specs.problem_rules.Problem as rules;
 
     ghost Value = { rules.Term };
 

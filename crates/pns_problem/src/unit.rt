@@ -1,9 +1,10 @@
 //! Operating units, and the tests by which they are judged.
 ghost use Rattle.std.specs.Prelude.{◌≡◌, ◌≤◌, ◌||◌, false, IfOk, int_lt};
-ghost use Rattle.problem_rules.specs.Validity.{bounds_out_of_range, costs_out_of_range};
-ghost use Rattle.problem_rules.specs.Validity.{rates_out_of_range, unit_out_of_range};
-ghost use Rattle.problem_rules.specs.Validity.{unit_negative, names_no_material, repeats_material};
-ghost use Rattle.problem_rules.specs.Validity.{shares_material, is_empty};
+ghost use Rattle.text_rules.specs.problem_rules.Validity.{bounds_out_of_range, costs_out_of_range};
+ghost use Rattle.text_rules.specs.problem_rules.Validity.{rates_out_of_range, unit_out_of_range};
+ghost use Rattle.text_rules.specs.problem_rules.Validity.{unit_negative, names_no_material};
+ghost use Rattle.text_rules.specs.problem_rules.Validity.{repeats_material};
+ghost use Rattle.text_rules.specs.problem_rules.Validity.{shares_material, is_empty};
 
 use crate::amount::is_out_of_range;
 use crate::term::{
@@ -31,7 +32,7 @@ pub struct OperatingUnit {
 
 impl Model for OperatingUnit {
     ghost use Rattle.std.specs.Prelude.{string_bytes};
-    ghost use Rattle.problem_rules.specs.Problem as rules;
+    ghost use Rattle.text_rules.specs.problem_rules.Problem as rules;
 
     ghost Value = { rules.OperatingUnit };
 

@@ -1,7 +1,8 @@
 //! The operating units of a generated problem.
 ghost use Rattle.std.specs.Prelude.{◌≡◌, ◌≤◌, ◌<◌, ◌∷◌, [], IfOk, OnOk};
-ghost use Rattle.problem_rules.specs.Draws.{next_state, state_after};
-ghost use Rattle.problem_rules.specs.Generated.{target, stage, input, term, unit, units_of};
+ghost use Rattle.text_rules.specs.problem_rules.Draws.{next_state, state_after};
+ghost use Rattle.text_rules.specs.problem_rules.Generated.{target, stage, input, term, unit};
+ghost use Rattle.text_rules.specs.problem_rules.Generated.{units_of};
 
 use crate::draws::Draws;
 use crate::materials::{numbered, whole};

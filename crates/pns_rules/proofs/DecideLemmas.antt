@@ -4,7 +4,7 @@ use Rattle.std.proofs.Common.{◌∙◌, inl, inr, ◌⊎◌, ◌↔◌}
 use Rattle.std.proofs.lemmas.Bool.{cases_Bool, both_ways, and_parts, and_from, or_cases, not-true}
 use Rattle.std.proofs.lemmas.Bool.{false_from_ne_true}
 use Rattle.number_sets.specs.Sets.{any_below, IsWithin}
-use Rattle.number_sets.proofs.SetLemmas.{any_below-from, any_below-some, any_below-none}
+use Rattle.number_sets.proofs.Cited.{any_below-from, any_below-some, any_below-none}
 use Rattle.pns_rules.specs.Shape.{Shape, IsProper}
 use Rattle.pns_rules.specs.Structure.{is_made, is_used, mats, HasPath, IsStructure, Clashes}
 use Rattle.pns_rules.specs.Structure.{IsAllowed}

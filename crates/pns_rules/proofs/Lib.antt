@@ -1,3 +1,4 @@
+pub mod Cited
 pub mod DecideLemmas
 mod ExampleListing
 mod ExampleProblem
@@ -12,3 +13,5 @@ pub mod StepLemmas
 pub mod StructureLemmas
 pub mod StructureList
 pub mod TraceLemmas
+pub use Rattle.number_sets.proofs as number_sets
+pub use Rattle.problem_rules.proofs as problem_rules

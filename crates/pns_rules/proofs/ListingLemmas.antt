@@ -5,7 +5,7 @@ use Rattle.std.proofs.Common.{inl, inr, ◌⊎◌, Option, Some, None}
 use Rattle.number_sets.specs.Sets.{has}
 use Rattle.pns_rules.specs.Shape.{Shape}
 use Rattle.pns_rules.specs.Trace.{IsBefore}
-use Rattle.number_sets.proofs.SetLemmas.{same_sets}
+use Rattle.number_sets.proofs.Cited.{same_sets}
 use Rattle.number_sets.specs.Options.{IsIn}
 use Rattle.pns_rules.specs.Listing.{IsLater, IsListed, IsBeforeAll, IsInOrder, IsListing}
 use Rattle.pns_rules.proofs.OrderLemmas.{before_strict, before_trans, before_not_after}

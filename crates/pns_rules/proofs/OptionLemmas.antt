@@ -5,8 +5,8 @@ use Rattle.std.proofs.lemmas.Bool.{cases_Bool, or_cases, or_left, or_right, and_
 use Rattle.std.proofs.lemmas.Bool.{both_ways, not-true, false_from_ne_true}
 use Rattle.number_sets.specs.Sets.{has, IsSet, Avoids}
 use Rattle.number_sets.specs.Options as sets
-use Rattle.number_sets.proofs.SetLemmas.{has-listed, IsSet-listed}
-use Rattle.number_sets.proofs.OptionLists as lists
+use Rattle.number_sets.proofs.Cited.{has-listed, IsSet-listed}
+use Rattle.number_sets.proofs.Cited as lists
 use Rattle.pns_rules.specs.Shape.{Shape, IsProper}
 use Rattle.pns_rules.specs.Structure.{makers}
 use Rattle.pns_rules.specs.Nodes.{Node, is_free, base_makers, free_makers, options, IsOption}

@@ -11,7 +11,7 @@ use Rattle.pns_rules.specs.Trace.{Pair, next_material, Continues, IsTrace, IsLes
 use Rattle.pns_rules.specs.Trace.{IsWalk}
 use Rattle.pns_rules.specs.Trace.{HasMakers}
 use Rattle.pns_rules.proofs.TraceLemmas.{a_trace, a_trace_at, one_trace, left, traces_tell}
-use Rattle.number_sets.proofs.MaskOrder.{listed-less, listed-same_mask}
+use Rattle.number_sets.proofs.Cited.{listed-less, listed-same_mask}
 
 -- ---- strict and transitive
 

@@ -6,9 +6,9 @@ use Rattle.std.proofs.Common.{◌∙◌, ◌∷◌, ◌≡◌, ◌≤◌, ◌⊎
 use Rattle.std.proofs.lemmas.Bool.{cases_eq, cases_lt, both_ways, and_parts, and_from, or_cases}
 use Rattle.std.proofs.lemmas.Bool.{or_left, or_right}
 use Rattle.number_sets.specs.Sets.{has, listed, any_below, IsWithin}
-use Rattle.number_sets.proofs.SetLemmas.{length_listed, any_below-from, any_below-some}
-use Rattle.number_sets.proofs.SetLemmas.{any_below-within, has-listed, IsRising-listed, same_length}
-use Rattle.number_sets.proofs.SetLemmas.{length-within}
+use Rattle.number_sets.proofs.Cited.{length_listed, any_below-from, any_below-some}
+use Rattle.number_sets.proofs.Cited.{any_below-within, has-listed, IsRising-listed, same_length}
+use Rattle.number_sets.proofs.Cited.{length-within}
 use Rattle.pns_rules.specs.Shape.{Shape, IsProper}
 use Rattle.pns_rules.specs.Structure.{IsPath, HasPath}
 

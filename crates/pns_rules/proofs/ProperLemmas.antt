@@ -11,9 +11,7 @@ use Rattle.problem_rules.specs.Problem.{no_material, no_unit, no_exclusion}
 use Rattle.problem_rules.specs.Validity.{IsValid}
 use Rattle.problem_rules.specs.WellFormed.{IsWellFormed, IsWellFormedUnit, IsWellFormedExclusion}
 use Rattle.problem_rules.specs.WellFormed.{AreRisingFrom}
-use Rattle.problem_rules.proofs.ItemLemmas.{Each-at}
-use Rattle.problem_rules.proofs.TermLemmas.{known_material, sides_apart}
-use Rattle.problem_rules.proofs.ValidLemmas.{well_formed_from_valid}
+use Rattle.problem_rules.proofs.Cited.{Each-at, known_material, sides_apart, well_formed_from_valid}
 use Rattle.pns_rules.specs.Shape.{shape_of, IsProper}
 
 -- a raw material is no product

@@ -2,7 +2,7 @@
 use Rattle.std.proofs.Common.{◌≡◌, ℕ, pos, Bool, true, false, List, [], ◌∷◌, refl, arith, None}
 use Rattle.std.proofs.lemmas.Bool.{both_ways}
 use Rattle.number_sets.specs.Sets.{has}
-use Rattle.number_sets.proofs.SetLemmas.{has_below}
+use Rattle.number_sets.proofs.Cited.{has_below}
 use Rattle.problem_rules.specs.Problem.{Problem, Material, Term, OperatingUnit, Kind, raw_material}
 use Rattle.problem_rules.specs.Problem.{intermediate, product}
 use Rattle.problem_rules.specs.Validity.{IsValid}

@@ -6,8 +6,7 @@ use Rattle.std.proofs.lemmas.Bool.{and_parts}
 use Rattle.number_sets.specs.Sets.{has, listed, IsRising}
 use Rattle.pns_rules.specs.Structure.{IsStructure, IsAllowed}
 use Rattle.pns_rules.specs.Trace.{IsBefore}
-use Rattle.number_sets.proofs.SetLemmas.{same_sets, IsRising-listed, has-listed, listed-is}
-use Rattle.number_sets.proofs.SetLemmas.{below_from}
+use Rattle.number_sets.proofs.Cited.{same_sets, IsRising-listed, has-listed, listed-is, below_from}
 use Rattle.pns_rules.specs.Shape.{Shape, IsProper}
 use Rattle.number_sets.specs.Options.{IsIn}
 use Rattle.pns_rules.specs.Listing.{IsLater, IsListed, IsInOrder, IsListing}

@@ -14,7 +14,7 @@ use Rattle.pns_rules.specs.Structure.{Clashes, IsAllowed}
 use Rattle.pns_rules.specs.Nodes.{Node, Step, raw, rival, starve, loose, sole, IsPossible, after}
 use Rattle.pns_rules.specs.Nodes.{IsOption, child}
 use Rattle.pns_rules.specs.Ends.{IsDead}
-use Rattle.number_sets.proofs.SetLemmas.{has-listed, IsRising-listed, same_sets, same_tests}
+use Rattle.number_sets.proofs.Cited.{has-listed, IsRising-listed, same_sets, same_tests}
 use Rattle.pns_rules.proofs.StructureLemmas.{is_used-some, raw_unmade, a_maker, used_in}
 
 -- more units are left out, none of them in the structure

@@ -5,7 +5,7 @@ use Rattle.std.proofs.lemmas.Bool.{false_from_ne_true, true_from_ne_false}
 use Rattle.number_sets.specs.Sets.{IsWithin}
 use Rattle.pns_rules.specs.Shape.{Shape}
 use Rattle.pns_rules.specs.Structure.{is_made, is_used, mats, IsPath, HasPath, IsStructure, both}
-use Rattle.number_sets.proofs.SetLemmas.{any_below-from, any_below-some}
+use Rattle.number_sets.proofs.Cited.{any_below-from, any_below-some}
 
 module _ (g : Shape) where
   -- what a unit of o makes is made, and what it uses is used

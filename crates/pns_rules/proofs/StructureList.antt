@@ -5,8 +5,7 @@ use Rattle.std.proofs.Common.{List, [], ◌∷◌, refl, sym, subst, inl, inr, N
 use Rattle.std.proofs.lemmas.Bool.{both_ways, and_parts, and_from, or_left, or_right, cases_eq}
 use Rattle.number_sets.specs.Sets.{has, IsRising, AreBelow, IsBelowAll}
 use Rattle.number_sets.specs.Options.{IsIn, subsets}
-use Rattle.number_sets.proofs.SetLemmas.{has_below}
-use Rattle.number_sets.proofs.OptionLists.{subset_sound, subset_complete}
+use Rattle.number_sets.proofs.Cited.{has_below, subset_sound, subset_complete}
 use Rattle.pns_rules.specs.Shape.{Shape, IsProper}
 use Rattle.pns_rules.specs.Structure.{IsStructure, IsAllowed}
 use Rattle.pns_rules.specs.Listing.{IsInOrder, IsListing}

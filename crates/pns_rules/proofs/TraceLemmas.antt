@@ -9,7 +9,7 @@ use Rattle.pns_rules.specs.Shape.{Shape, IsProper}
 use Rattle.pns_rules.specs.Structure.{is_used, is_needed, makers, IsPath, IsStructure}
 use Rattle.pns_rules.specs.Trace.{Pair, is_done, units_of, least_below, or_later, next_material}
 use Rattle.pns_rules.specs.Trace.{Continues, IsTrace, onto, HasMakers}
-use Rattle.number_sets.proofs.SetLemmas.{has-listed, IsRising-listed, length-less, same_tests}
+use Rattle.number_sets.proofs.Cited.{has-listed, IsRising-listed, length-less, same_tests}
 use Rattle.pns_rules.proofs.StructureLemmas.{is_used-from, raw_unmade}
 
 -- ---- the least number that passes

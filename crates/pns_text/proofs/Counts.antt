@@ -5,11 +5,11 @@ use Rattle.std.proofs.Common.{arith, length-append, ltb-true}
 use Rattle.std.specs.List.{position, position_or_len}
 use Rattle.std.proofs.lemmas.List.{length-map}
 use Rattle.std.proofs.lemmas.List.Sums.{length-filter, count_by-le-length}
-use Rattle.text_rules.specs.declared.Section.{Section}
-use Rattle.text_rules.specs.declared.Section.TheVariants.{OperatingUnits, Rates}
-use Rattle.problem_rules.specs.Names.{is_among}
-use Rattle.text_rules.specs.Line.{Placed, is_section, head_of, is_at, lines_at, heads_at}
-use Rattle.text_rules.specs.Value.{bare_lines, unit_names_from}
+use Rattle.text_lines.specs.text_rules.declared.Section.{Section}
+use Rattle.text_lines.specs.text_rules.declared.Section.TheVariants.{OperatingUnits, Rates}
+use Rattle.text_lines.specs.problem_rules.Names.{is_among}
+use Rattle.text_lines.specs.text_rules.Line.{Placed, is_section, head_of, is_at, lines_at, heads_at}
+use Rattle.text_lines.specs.text_rules.Value.{bare_lines, unit_names_from}
 
 place_few : (b : Bool) (at long limit : ℕ) → nat_lt at long ≡ b → long < limit
     → unwrap_or (cond b (Some at) None) 0 < limit

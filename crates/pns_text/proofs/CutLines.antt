@@ -4,17 +4,20 @@ use Rattle.std.proofs.Common.{Some, None, if◌then◌else◌, refl, sym, ◌∙
 use Rattle.std.proofs.Common.{Option, find}
 use Rattle.std.proofs.lemmas.Simd.{map-map}
 use Rattle.std.specs.Str.{bytes_eq}
-use Rattle.problem_rules.specs.Problem as rules
-use Rattle.text_rules.specs.declared.TextKind.{TextKind}
-use Rattle.text_rules.specs.declared.Section.{Section}
-use Rattle.text_rules.specs.declared.Section.TheVariants.{Defaults, Materials, OperatingUnits}
-use Rattle.text_rules.specs.declared.Section.TheVariants.{Rates, Exclusions}
-use Rattle.text_rules.specs.Line.{Placed, head_of, lines_at}
-use Rattle.text_rules.specs.Field.{sides_of}
-use Rattle.text_rules.specs.Term.{Pair, pair_of, has_bad_sides, sides_read, pairs_at}
-use Rattle.text_rules.specs.Value.{item_fields, Settings, Names, material_kind, unit_kind}
-use Rattle.text_rules.specs.Value.{rates_kind, exclusion_kind, line_meaning, term_from, both_from}
-use Rattle.text_rules.specs.Value.{sides_or, sides_named}
+use Rattle.text_lines.specs.problem_rules.Problem as rules
+use Rattle.text_lines.specs.text_rules.declared.TextKind.{TextKind}
+use Rattle.text_lines.specs.text_rules.declared.Section.{Section}
+use Rattle.text_lines.specs.text_rules.declared.Section.TheVariants.{Defaults, Materials}
+use Rattle.text_lines.specs.text_rules.declared.Section.TheVariants.{OperatingUnits}
+use Rattle.text_lines.specs.text_rules.declared.Section.TheVariants.{Rates, Exclusions}
+use Rattle.text_lines.specs.text_rules.Line.{Placed, head_of, lines_at}
+use Rattle.text_lines.specs.text_rules.Field.{sides_of}
+use Rattle.text_lines.specs.text_rules.Term.{Pair, pair_of, has_bad_sides, sides_read, pairs_at}
+use Rattle.text_lines.specs.text_rules.Value.{item_fields, Settings, Names, material_kind}
+use Rattle.text_lines.specs.text_rules.Value.{unit_kind}
+use Rattle.text_lines.specs.text_rules.Value.{rates_kind, exclusion_kind, line_meaning, term_from}
+use Rattle.text_lines.specs.text_rules.Value.{both_from}
+use Rattle.text_lines.specs.text_rules.Value.{sides_or, sides_named}
 use Rattle.text_lines.specs.View.{texts}
 use Rattle.text_lines.specs.Terms.{sides_view, term_view, terms_view}
 use Rattle.text_lines.specs.declared.term.Sides.{Sides}

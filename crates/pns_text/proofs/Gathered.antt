@@ -6,17 +6,17 @@ use Rattle.std.specs.Borrow.{Bor}
 use Rattle.std.proofs.lemmas.List.{map-append, at_drop_more}
 use Rattle.std.proofs.lemmas.List.Elements.{filter_more}
 use Rattle.std.specs.Str.{bytes_eq}
-use Rattle.problem_rules.specs.Names.{is_among}
-use Rattle.text_rules.specs.declared.Section.TheVariants.{Defaults, Rates}
-use Rattle.text_rules.specs.Line.{Placed, head_of, is_at, lines_at}
-use Rattle.text_rules.specs.Value.{bare_lines, default_fields, value_at}
-use Rattle.text_rules.specs.Field.{key_of, value_of}
-use Rattle.text_rules.specs.Term.{Pair}
-use Rattle.text_rules.specs.Fault.{names_of}
+use Rattle.text_lines.specs.problem_rules.Names.{is_among}
+use Rattle.text_lines.specs.text_rules.declared.Section.TheVariants.{Defaults, Rates}
+use Rattle.text_lines.specs.text_rules.Line.{Placed, head_of, is_at, lines_at}
+use Rattle.text_lines.specs.text_rules.Value.{bare_lines, default_fields, value_at}
+use Rattle.text_lines.specs.text_rules.Field.{key_of, value_of}
+use Rattle.text_lines.specs.text_rules.Term.{Pair}
+use Rattle.text_lines.specs.text_rules.Fault.{names_of}
 use Rattle.text_lines.specs.View.{texts}
 use Rattle.text_lines.specs.Terms.{term_view, terms_view}
 use Rattle.text_lines.specs.declared.term.Term.{Term}
-use Rattle.text_lines.proofs.Maps.{maps_more}
+use Rattle.text_lines.proofs.Cited.{maps_more}
 
 next : {X Y : Type 0} (f : X → Y) (p : X → Bool) (xs : List X) (i : ℕ) (x : X) (b : Bool)
     → i < length xs → x ≡ get_or xs i x → b ≡ p x

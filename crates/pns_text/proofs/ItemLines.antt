@@ -4,8 +4,8 @@ use Rattle.std.proofs.Common.{[], ◌∷◌, length, refl, arith, ◌==◌, ◌+
 use Rattle.std.proofs.Common.{◌∙◌, append_assoc}
 use Rattle.std.specs.List.{list_any, position_or_len, slice_split}
 use Rattle.std.specs.Str.{byte}
-use Rattle.text_rules.specs.Blanks.{trim}
-use Rattle.text_lines.proofs.Cutting.{split-at, split-first, behind-none}
+use Rattle.text_lines.specs.text_rules.Blanks.{trim}
+use Rattle.text_lines.proofs.Cited.{split-at, split-first, behind-none}
 
 one_more : (b : Bool) (n m : ℕ) (rest : Bool) → cond (not b) (1 + n) 0 < suc m
     → (n < m → rest ≡ true) → (b || rest) ≡ true

@@ -5,12 +5,14 @@ use Rattle.std.proofs.Common.{arith}
 use Rattle.std.specs.List.{list_any}
 use Rattle.std.proofs.lemmas.Bool.{le-ltb}
 use Rattle.std.specs.Result.{result_unwrap_or}
-use Rattle.text_rules.specs.declared.TextKind.{TextKind}
-use Rattle.text_rules.specs.declared.TextKind.TheVariants.{BadNumber, TooFine, TooLarge, Negative}
-use Rattle.text_rules.specs.declared.TextKind.TheVariants.{ZeroRate}
-use Rattle.text_rules.specs.Amount.{amount_of}
-use Rattle.text_rules.specs.Fault.{is_bad, is_too_fine, is_too_large, millionths, rate_stands}
-use Rattle.text_rules.specs.Term.{Pair}
+use Rattle.text_lines.specs.text_rules.declared.TextKind.{TextKind}
+use Rattle.text_lines.specs.text_rules.declared.TextKind.TheVariants.{BadNumber, TooFine, TooLarge}
+use Rattle.text_lines.specs.text_rules.declared.TextKind.TheVariants.{Negative}
+use Rattle.text_lines.specs.text_rules.declared.TextKind.TheVariants.{ZeroRate}
+use Rattle.text_lines.specs.text_rules.Amount.{amount_of}
+use Rattle.text_lines.specs.text_rules.Fault.{is_bad, is_too_fine, is_too_large, millionths}
+use Rattle.text_lines.specs.text_rules.Fault.{rate_stands}
+use Rattle.text_lines.specs.text_rules.Term.{Pair}
 use Rattle.pns_text.specs.Fault.{is_faulty}
 
 not_bad : (r : Result ℤ TextKind) → not (int_lt (pos 0) (result_unwrap_or r (pos 0))) ≡ false

@@ -3,15 +3,17 @@ use Rattle.std.proofs.Common.{◌≡◌, ◌==◌, ◌+◌, Bool, true, false, n
 use Rattle.std.proofs.Common.{length, filter, Option, Some, None, Result, Ok, Err, OnOk, inl, inr}
 use Rattle.std.proofs.Common.{if◌then◌else◌, refl, sym, ◌∙◌, ap, arith, append_assoc, append-nil}
 use Rattle.std.proofs.lemmas.Bool.{ne_eqb, eqb-true}
-use Rattle.problem_rules.specs.Problem.{Problem}
-use Rattle.text_rules.specs.declared.TextKind.{TextKind}
-use Rattle.text_rules.specs.declared.TextKind.TheVariants.{FileType, NoProduct}
-use Rattle.text_rules.specs.Line.{Placed, without_mark, matters}
-use Rattle.text_rules.specs.Fault as rules
-use Rattle.text_rules.specs.Fault.{file_type, Seen, line_fault, first_fault, fault_or}
-use Rattle.text_rules.specs.Value.{Settings, Names, first_meaning, settings_of, names_all}
-use Rattle.text_rules.specs.Value.{problem_from, has_product, with_product, or_first, meaning_at}
-use Rattle.text_rules.specs.Value.{read_lines, read_text}
+use Rattle.text_lines.specs.problem_rules.Problem.{Problem}
+use Rattle.text_lines.specs.text_rules.declared.TextKind.{TextKind}
+use Rattle.text_lines.specs.text_rules.declared.TextKind.TheVariants.{FileType, NoProduct}
+use Rattle.text_lines.specs.text_rules.Line.{Placed, without_mark, matters}
+use Rattle.text_lines.specs.text_rules.Fault as rules
+use Rattle.text_lines.specs.text_rules.Fault.{file_type, Seen, line_fault, first_fault, fault_or}
+use Rattle.text_lines.specs.text_rules.Value.{Settings, Names, first_meaning, settings_of}
+use Rattle.text_lines.specs.text_rules.Value.{names_all}
+use Rattle.text_lines.specs.text_rules.Value.{problem_from, has_product, with_product, or_first}
+use Rattle.text_lines.specs.text_rules.Value.{meaning_at}
+use Rattle.text_lines.specs.text_rules.Value.{read_lines, read_text}
 use Rattle.text_lines.specs.declared.fault.TextFault.{TextFault}
 use Rattle.text_lines.specs.declared.fault.TextFault.TheVariants.{At, Memory}
 use Rattle.text_lines.specs.Lines.{lines_from, IsUntyped}

@@ -2,13 +2,15 @@
 use Rattle.std.proofs.Common.{◌≡◌, ◌≤◌, ◌+◌, ◌&&◌, Bool, true, false, not, ℕ, List, [], ◌∷◌, ◌++◌}
 use Rattle.std.proofs.Common.{length, map, if◌then◌else◌, refl, sym, ◌∙◌, ap, subst, arith}
 use Rattle.std.proofs.Common.{length-append}
-use Rattle.text_rules.specs.declared.Section.{Section}
-use Rattle.text_rules.specs.declared.Section.TheVariants.{Defaults, Materials, OperatingUnits}
-use Rattle.text_rules.specs.declared.Section.TheVariants.{Rates, Exclusions}
-use Rattle.text_rules.specs.Line.{Placed, is_section, is_at, lines_at, heads_at, is_meant, matters}
-use Rattle.text_rules.specs.Line.{head_of}
-use Rattle.text_rules.specs.Fault.{more_if}
-use Rattle.text_rules.specs.Value.{Names, names_all}
+use Rattle.text_lines.specs.text_rules.declared.Section.{Section}
+use Rattle.text_lines.specs.text_rules.declared.Section.TheVariants.{Defaults, Materials}
+use Rattle.text_lines.specs.text_rules.declared.Section.TheVariants.{OperatingUnits}
+use Rattle.text_lines.specs.text_rules.declared.Section.TheVariants.{Rates, Exclusions}
+use Rattle.text_lines.specs.text_rules.Line.{Placed, is_section, is_at, lines_at, heads_at}
+use Rattle.text_lines.specs.text_rules.Line.{is_meant, matters}
+use Rattle.text_lines.specs.text_rules.Line.{head_of}
+use Rattle.text_lines.specs.text_rules.Fault.{more_if}
+use Rattle.text_lines.specs.text_rules.Value.{Names, names_all}
 use Rattle.pns_text.specs.Walk.{Walk, kept_after, walk_past, IsPast, HasNames}
 
 -- a line of a section that has a meaning is kept

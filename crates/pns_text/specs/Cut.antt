@@ -1,14 +1,15 @@
 -- Lines that a walk keeps, each split once: the parts of a line are those that the grammar gives.
 use Rattle.std.specs.Prelude.{◌≡◌, ℕ, true, false, List, Option, Some, None, Result, Ok, Err}
-use Rattle.problem_rules.specs.Names.{is_name, has_double}
-use Rattle.text_rules.specs.declared.TextKind.{TextKind}
-use Rattle.text_rules.specs.declared.Section.{Section}
-use Rattle.text_rules.specs.declared.Section.TheVariants.{Defaults, Materials, OperatingUnits}
-use Rattle.text_rules.specs.declared.Section.TheVariants.{Rates, Exclusions}
-use Rattle.text_rules.specs.Line.{Placed, head_of, matters}
-use Rattle.text_rules.specs.Field.{items_of}
-use Rattle.text_rules.specs.Term.{pairs_at}
-use Rattle.text_rules.specs.Fault.{Seen, seen_after, line_fault}
+use Rattle.text_lines.specs.problem_rules.Names.{is_name, has_double}
+use Rattle.text_lines.specs.text_rules.declared.TextKind.{TextKind}
+use Rattle.text_lines.specs.text_rules.declared.Section.{Section}
+use Rattle.text_lines.specs.text_rules.declared.Section.TheVariants.{Defaults, Materials}
+use Rattle.text_lines.specs.text_rules.declared.Section.TheVariants.{OperatingUnits}
+use Rattle.text_lines.specs.text_rules.declared.Section.TheVariants.{Rates, Exclusions}
+use Rattle.text_lines.specs.text_rules.Line.{Placed, head_of, matters}
+use Rattle.text_lines.specs.text_rules.Field.{items_of}
+use Rattle.text_lines.specs.text_rules.Term.{pairs_at}
+use Rattle.text_lines.specs.text_rules.Fault.{Seen, seen_after, line_fault}
 use Rattle.text_lines.specs.View.{texts}
 use Rattle.text_lines.specs.Terms.{sides_view}
 use Rattle.text_lines.specs.declared.fault.TextFault.{TextFault}

@@ -1,8 +1,8 @@
 -- What the reader says of the fault of form of a line.
 use Rattle.std.specs.Prelude.{◌≡◌, ℕ, Bool, Option, Some, not, pos, int_lt}
-use Rattle.text_rules.specs.declared.TextKind.{TextKind}
-use Rattle.text_rules.specs.Term.{Pair}
-use Rattle.text_rules.specs.Fault.{millionths}
+use Rattle.text_lines.specs.text_rules.declared.TextKind.{TextKind}
+use Rattle.text_lines.specs.text_rules.Term.{Pair}
+use Rattle.text_lines.specs.text_rules.Fault.{millionths}
 use Rattle.text_lines.specs.declared.fault.TextFault.{TextFault}
 use Rattle.text_lines.specs.declared.fault.TextFault.TheVariants.{At, Memory}
 

@@ -1,10 +1,10 @@
 -- Items of a line, each split once.
 use Rattle.std.specs.Prelude.{◌≡◌, ℕ, ℤ, Bool, List, Result}
-use Rattle.problem_rules.specs.Names.{is_among}
-use Rattle.text_rules.specs.declared.TextKind.{TextKind}
-use Rattle.text_rules.specs.Amount.{amount_of}
-use Rattle.text_rules.specs.Field.{has_key, key_of, kind_words}
-use Rattle.text_rules.specs.Fault.{field_value}
+use Rattle.text_lines.specs.problem_rules.Names.{is_among}
+use Rattle.text_lines.specs.text_rules.declared.TextKind.{TextKind}
+use Rattle.text_lines.specs.text_rules.Amount.{amount_of}
+use Rattle.text_lines.specs.text_rules.Field.{has_key, key_of, kind_words}
+use Rattle.text_lines.specs.text_rules.Fault.{field_value}
 
 -- an item split at its first equals sign, with the number that its value spells
 pub record IsCut (text : List ℕ) (has : Bool) (is_word : Bool) (front : List ℕ) (behind : List ℕ)

@@ -1,6 +1,6 @@
 -- Lines, and what was seen, as the definitions have them.
-use Rattle.text_rules.specs.Line as line
-use Rattle.text_rules.specs.Fault as fault
+use Rattle.text_lines.specs.text_rules.Line as line
+use Rattle.text_lines.specs.text_rules.Fault as fault
 use Rattle.text_lines.specs.View.{texts}
 use Rattle.pns_text.specs.Walk as walk
 use Rattle.pns_text.specs.declared.seen.Placed.{Placed}

@@ -2,14 +2,17 @@
 -- that remain.
 use Rattle.std.specs.Prelude.{◌≡◌, ◌≤◌, ◌+◌, ◌++◌, ℕ, List, [], ◌∷◌, length, filter, None, Result}
 use Rattle.std.specs.Prelude.{if◌then◌else◌}
-use Rattle.problem_rules.specs.Problem.{Problem}
-use Rattle.text_rules.specs.declared.Section.{Section}
-use Rattle.text_rules.specs.declared.Section.TheVariants.{Preamble, Materials, OperatingUnits}
-use Rattle.text_rules.specs.declared.Section.TheVariants.{Rates}
-use Rattle.text_rules.specs.Line.{Placed, section_after, is_header, placed_from, standing, matters}
-use Rattle.text_rules.specs.Line.{heads_at}
-use Rattle.text_rules.specs.Fault.{Fault, Seen, seen_none, seen_after, line_fault, first_fault}
-use Rattle.text_rules.specs.Value.{meaning_at, or_first}
+use Rattle.text_lines.specs.problem_rules.Problem.{Problem}
+use Rattle.text_lines.specs.text_rules.declared.Section.{Section}
+use Rattle.text_lines.specs.text_rules.declared.Section.TheVariants.{Preamble, Materials}
+use Rattle.text_lines.specs.text_rules.declared.Section.TheVariants.{OperatingUnits}
+use Rattle.text_lines.specs.text_rules.declared.Section.TheVariants.{Rates}
+use Rattle.text_lines.specs.text_rules.Line.{Placed, section_after, is_header, placed_from}
+use Rattle.text_lines.specs.text_rules.Line.{standing, matters}
+use Rattle.text_lines.specs.text_rules.Line.{heads_at}
+use Rattle.text_lines.specs.text_rules.Fault.{Fault, Seen, seen_none, seen_after, line_fault}
+use Rattle.text_lines.specs.text_rules.Fault.{first_fault}
+use Rattle.text_lines.specs.text_rules.Value.{meaning_at, or_first}
 
 -- what was seen, the lines that matter so far, and the section of the next line
 pub record Walk : Type 0 where

@@ -1,8 +1,8 @@
 //! Lines that a walk keeps, each split once.
 use crate::item::Item;
 use std::marker::Model;
+use text_lines::Section;
 use text_lines::term::Sides;
-use text_rules::Section;
 
 /// What follows the name in a line without a fault of form.
 #[derive(Drop)]
@@ -30,7 +30,7 @@ pub struct Kept<'a> {
 }
 
 impl<'a> Model for Kept<'a> {
-    ghost use Rattle.text_rules.specs.Line.{Placed};
+    ghost use Rattle.text_lines.specs.text_rules.Line.{Placed};
     ghost use Rattle.pns_text.specs.Cut.{IsKept, line_cut};
 
     ghost Value = { Placed };
@@ -42,12 +42,12 @@ impl<'a> Model for Kept<'a> {
 
 impl<'a> Kept<'a> {
     ghost use Rattle.std.specs.Prelude.{◌≡◌, false, true, IfSome, is_some};
-    ghost use Rattle.problem_rules.specs.Names.{is_name, has_double};
-    ghost use Rattle.text_rules.specs.Field.{items_of};
+    ghost use Rattle.text_lines.specs.problem_rules.Names.{is_name, has_double};
+    ghost use Rattle.text_lines.specs.text_rules.Field.{items_of};
     ghost use Rattle.text_lines.specs.View.{texts};
     ghost use Rattle.text_lines.specs.Terms.{sides_view};
-    ghost use Rattle.text_rules.specs.Term.{pairs_at};
-    ghost use Rattle.text_rules.specs.Line.{head_of, is_at};
+    ghost use Rattle.text_lines.specs.text_rules.Term.{pairs_at};
+    ghost use Rattle.text_lines.specs.text_rules.Line.{head_of, is_at};
 
     /// Whether it is a line of defaults.
     pub(crate) fn is_default(&self) -> bool

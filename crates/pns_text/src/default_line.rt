@@ -1,18 +1,18 @@
 //! The form of a line of defaults.
 ghost use Rattle.std.specs.Prelude.{◌≡◌, ◌&&◌, find, not};
 ghost use Rattle.std.specs.Str.{bytes_eq};
-ghost use Rattle.problem_rules.specs.Names.{is_among};
-ghost use Rattle.text_rules.specs.Field.{key_of, value_of, kind_words, material_type};
-ghost use Rattle.text_rules.specs.Field.{payout_period};
-ghost use Rattle.text_rules.specs.Fault.{is_payout, millionths, default_fault};
-ghost use Rattle.text_rules.specs.Fault.{default_number_stands};
+ghost use Rattle.text_lines.specs.problem_rules.Names.{is_among};
+ghost use Rattle.text_lines.specs.text_rules.Field.{key_of, value_of, kind_words, material_type};
+ghost use Rattle.text_lines.specs.text_rules.Field.{payout_period};
+ghost use Rattle.text_lines.specs.text_rules.Fault.{is_payout, millionths, default_fault};
+ghost use Rattle.text_lines.specs.text_rules.Fault.{default_number_stands};
 ghost use Rattle.text_lines.specs.View.{texts};
 
 use crate::item::{NUMBER_KINDS, value_stands};
+use text_lines::TextKind;
 use text_lines::amount::{millionths, read_amount};
 use text_lines::field::{has_key, is_kind_word, key_of, value_of};
 use text_lines::name::is_among;
-use text_rules::TextKind;
 
 const DEFAULT_KEYS: [&[u8]; 11] = [
     b"material_type",

@@ -1,15 +1,15 @@
 //! The form of a line of exclusions.
 ghost use Rattle.std.specs.Prelude.{◌≡◌, ◌==◌, IfOk, length, not};
 ghost use Rattle.std.specs.List.{list_any};
-ghost use Rattle.problem_rules.specs.Names.{is_name};
-ghost use Rattle.text_rules.specs.Fault.{exclusion_fault};
+ghost use Rattle.text_lines.specs.problem_rules.Names.{is_name};
+ghost use Rattle.text_lines.specs.text_rules.Fault.{exclusion_fault};
 ghost use Rattle.text_lines.specs.View.{texts};
 
 use std::alloc::{AllocError, Global};
+use text_lines::TextKind;
 use text_lines::line::has_colon;
 use text_lines::name::is_name;
 use text_lines::name_set::{NameSet, once};
-use text_rules::TextKind;
 
 fn some_empty(items: &[&[u8]]) -> bool
     ensures { result ≡ list_any (λ item. length item == 0) (texts items.now) }

@@ -1,21 +1,23 @@
 //! The items of a line, each split once, and their faults.
 ghost use Rattle.std.specs.Prelude.{◌≡◌, ◌==◌, ◌<◌, ◌+◌, IfOk, drop, find, length, option_map};
 ghost use Rattle.std.specs.List.{list_any};
-ghost use Rattle.problem_rules.specs.Names.{is_among, has_double};
-ghost use Rattle.text_rules.specs.Field.{has_key, key_of, value_of, is_keyed, kind_words, items_of};
-ghost use Rattle.text_rules.specs.Fault.{millionths, field_key, field_value, has_number};
-ghost use Rattle.text_rules.specs.Fault.{number_stands, value_stands, item_stands, has_unknown_key};
-ghost use Rattle.text_rules.specs.Fault.{keys_in, fields_fault};
-ghost use Rattle.text_rules.specs.Value.{value_at, item_fields};
+ghost use Rattle.text_lines.specs.problem_rules.Names.{is_among, has_double};
+ghost use Rattle.text_lines.specs.text_rules.Field.{has_key, key_of, value_of, is_keyed};
+ghost use Rattle.text_lines.specs.text_rules.Field.{kind_words, items_of};
+ghost use Rattle.text_lines.specs.text_rules.Fault.{millionths, field_key, field_value, has_number};
+ghost use Rattle.text_lines.specs.text_rules.Fault.{number_stands, value_stands, item_stands};
+ghost use Rattle.text_lines.specs.text_rules.Fault.{has_unknown_key};
+ghost use Rattle.text_lines.specs.text_rules.Fault.{keys_in, fields_fault};
+ghost use Rattle.text_lines.specs.text_rules.Value.{value_at, item_fields};
 ghost use Rattle.text_lines.specs.View.{texts};
 
 use std::alloc::{AllocError, Global};
 use std::marker::Model;
+use text_lines::TextKind;
 use text_lines::amount::read_amount;
 use text_lines::field::{self, is_kind_word};
 use text_lines::line::{has_colon, place_of, tail_of, trim};
 use text_lines::name::{is_among, is_name};
-use text_rules::TextKind;
 
 /// An item of a line, split at its first equals sign, with the number that its value spells.
 /// Contracts see its text.

@@ -26,6 +26,7 @@ mod value;
 mod walk;
 
 pub use fault::TextFault;
+pub use pns_problem::{Material, OperatingUnit, Problem};
 pub use read::read_problem;
 pub use text_lines::amount::read_amount;
-pub use text_rules::TextKind;
+pub use text_lines::{TextKind, canonical_reads, line};

@@ -1,11 +1,11 @@
 //! The form of a line of materials.
 ghost use Rattle.std.specs.Prelude.{◌≡◌};
 ghost use Rattle.std.specs.List.{list_any};
-ghost use Rattle.text_rules.specs.Fault.{is_unknown_kind, material_fault};
+ghost use Rattle.text_lines.specs.text_rules.Fault.{is_unknown_kind, material_fault};
 
 use crate::item::{Item, fields_kind, some_empty};
+use text_lines::TextKind;
 use text_lines::name_set::NameSet;
-use text_rules::TextKind;
 
 const MATERIAL_KEYS: [&[u8]; 3] = [b"price", b"flow_rate_lower_bound", b"flow_rate_upper_bound"];
 

@@ -1,11 +1,12 @@
 //! The meaning of the lines that have one: which names they cite, and whether bounds are in order.
 ghost use Rattle.std.specs.Prelude.{◌≡◌, IfOk, not};
 ghost use Rattle.std.specs.List.{list_any};
-ghost use Rattle.problem_rules.specs.Names.{is_among};
-ghost use Rattle.text_rules.specs.Line.{heads_at};
-ghost use Rattle.text_rules.specs.Fault.{names_of};
-ghost use Rattle.text_rules.specs.Value.{item_fields, is_unit, unit_kind, has_unknown, rates_kind};
-ghost use Rattle.text_rules.specs.Value.{exclusion_kind, line_meaning, first_meaning};
+ghost use Rattle.text_lines.specs.problem_rules.Names.{is_among};
+ghost use Rattle.text_lines.specs.text_rules.Line.{heads_at};
+ghost use Rattle.text_lines.specs.text_rules.Fault.{names_of};
+ghost use Rattle.text_lines.specs.text_rules.Value.{item_fields, is_unit, unit_kind, has_unknown};
+ghost use Rattle.text_lines.specs.text_rules.Value.{rates_kind};
+ghost use Rattle.text_lines.specs.text_rules.Value.{exclusion_kind, line_meaning, first_meaning};
 ghost use Rattle.text_lines.specs.View.{texts};
 ghost use Rattle.text_lines.specs.Terms.{terms_view, sides_view};
 
@@ -17,7 +18,7 @@ use std::marker::Model;
 use text_lines::line::head_of;
 use text_lines::name_set::NameSet;
 use text_lines::term::{Sides, Term};
-use text_rules::{Section, TextKind};
+use text_lines::{Section, TextKind};
 
 /// The names of all materials, units and lines of rates.
 #[derive(Drop)]
@@ -28,7 +29,7 @@ pub struct Names<'a> {
 }
 
 impl<'a> Model for Names<'a> {
-    ghost use Rattle.text_rules.specs.Value as rules;
+    ghost use Rattle.text_lines.specs.text_rules.Value as rules;
 
     ghost Value = { rules.Names };
 

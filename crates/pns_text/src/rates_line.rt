@@ -1,9 +1,10 @@
 //! The form of a line of rates.
 ghost use Rattle.std.specs.Prelude.{◌≡◌, ◌++◌, Some, IfOk, find, not};
 ghost use Rattle.std.specs.List.{list_any};
-ghost use Rattle.problem_rules.specs.Names.{is_name, is_among};
-ghost use Rattle.text_rules.specs.Fault.{names_of, rate_stands, doubled, term_fault, whole_fault};
-ghost use Rattle.text_rules.specs.Fault.{sides_fault};
+ghost use Rattle.text_lines.specs.problem_rules.Names.{is_name, is_among};
+ghost use Rattle.text_lines.specs.text_rules.Fault.{names_of, rate_stands, doubled, term_fault};
+ghost use Rattle.text_lines.specs.text_rules.Fault.{whole_fault};
+ghost use Rattle.text_lines.specs.text_rules.Fault.{sides_fault};
 ghost use Rattle.text_lines.specs.View.{texts};
 ghost use Rattle.text_lines.specs.Terms.{terms_view, sides_view};
 ghost use Rattle.pns_text.specs.Fault.{is_faulty};
@@ -11,11 +12,11 @@ ghost use Rattle.pns_text.specs.Fault.{is_faulty};
 use crate::item::number_stands;
 use crate::unit_line::is_beyond;
 use std::alloc::{AllocError, Global};
+use text_lines::TextKind;
 use text_lines::amount::{millionths, read_amount};
 use text_lines::name::is_name;
 use text_lines::name_set::{NameSet, once};
 use text_lines::term::{Sides, Term};
-use text_rules::TextKind;
 
 const RATE_KINDS: [TextKind; 5] = [
     TextKind::BadNumber,

@@ -1,9 +1,10 @@
 //! The reader of a whole text.
 ghost use Rattle.std.specs.Prelude.{◌≡◌, true, ◌<◌, ◌-◌, ◌^◌, Ok, IfOk, IfErr, length};
-ghost use Rattle.problem_rules.specs.Problem as rules;
-ghost use Rattle.problem_rules.specs.Validity.{IsValid};
-ghost use Rattle.text_rules.specs.Value.{has_product, with_product, names_all, meaning_at};
-ghost use Rattle.text_rules.specs.Value.{read_text};
+ghost use Rattle.text_lines.specs.problem_rules.Problem as rules;
+ghost use Rattle.text_lines.specs.problem_rules.Validity.{IsValid};
+ghost use Rattle.text_lines.specs.text_rules.Value.{has_product, with_product, names_all};
+ghost use Rattle.text_lines.specs.text_rules.Value.{meaning_at};
+ghost use Rattle.text_lines.specs.text_rules.Value.{read_text};
 ghost use Rattle.text_lines.specs.Tells.{Tells};
 
 use crate::cut::Kept;
@@ -14,8 +15,7 @@ use crate::value::parts_of;
 use crate::walk::walk_text;
 use pns_problem::{Kind, Material, Parts, Problem};
 use std::alloc::Global;
-use text_laws::read_is_valid;
-use text_rules::TextKind;
+use text_lines::{TextKind, read_is_valid};
 
 fn has_product(materials: &[Material]) -> bool
     ensures { result ≡ has_product materials.now }

@@ -1,6 +1,6 @@
 //! What was seen on the lines before a line, and the form of the line given that.
 ghost use Rattle.std.specs.Prelude.{◌≡◌, IfOk, IfErr, None, OnOk, false};
-ghost use Rattle.text_rules.specs.Fault.{seen_none, header_fault, skipped_fault};
+ghost use Rattle.text_lines.specs.text_rules.Fault.{seen_none, header_fault, skipped_fault};
 ghost use Rattle.text_lines.specs.View.{texts};
 ghost use Rattle.pns_text.specs.Fault.{TellsKind};
 ghost use Rattle.pns_text.specs.Cut.{Takes};
@@ -16,13 +16,14 @@ use crate::meaning::Names;
 use crate::rates_line::sides_kind;
 use crate::unit_line::unit_kind;
 use std::alloc::Global;
-use text_lines::field::{self, has_key, key_of};
+use text_lines::field::self;
+use text_lines::field::{has_key, key_of};
 use text_lines::line::head_of;
 use text_lines::name::is_among;
 use text_lines::name_set::NameSet;
 use text_lines::section::section_named;
 use text_lines::term::sides_of;
-use text_rules::{Section, TextKind};
+use text_lines::{Section, TextKind};
 
 /// A line, counted from 1, with the section that it is in or begins.
 #[derive(Clone, Copy)]

@@ -1,11 +1,12 @@
 //! The defaults, and the values of materials and units, given the defaults.
 ghost use Rattle.std.specs.Prelude.{◌≡◌, ◌/◌, codes, option_map, pos, unsigned_abs};
-ghost use Rattle.problem_rules.specs.Problem.{intermediate};
+ghost use Rattle.text_lines.specs.problem_rules.Problem.{intermediate};
 ghost use Rattle.pns_problem.specs.Kind.{kind_of};
-ghost use Rattle.text_rules.specs.Value as value;
-ghost use Rattle.text_rules.specs.Value.{value_at, item_fields, default_fields, number_at, kind_or};
-ghost use Rattle.text_rules.specs.Value.{settings_of, payout_from, is_material_turned};
-ghost use Rattle.text_rules.specs.Value.{is_unit_turned};
+ghost use Rattle.text_lines.specs.text_rules.Value as value;
+ghost use Rattle.text_lines.specs.text_rules.Value.{value_at, item_fields, default_fields};
+ghost use Rattle.text_lines.specs.text_rules.Value.{number_at, kind_or};
+ghost use Rattle.text_lines.specs.text_rules.Value.{settings_of, payout_from, is_material_turned};
+ghost use Rattle.text_lines.specs.text_rules.Value.{is_unit_turned};
 
 use crate::cut::Kept;
 use crate::item::{Item, field_at};
@@ -31,7 +32,7 @@ pub struct Settings {
 }
 
 impl Model for Settings {
-    ghost use Rattle.text_rules.specs.Value as rules;
+    ghost use Rattle.text_lines.specs.text_rules.Value as rules;
     ghost use Rattle.pns_problem.specs.Kind.{kind_of};
 
     ghost Value = { rules.Settings };

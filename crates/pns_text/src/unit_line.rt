@@ -1,12 +1,12 @@
 //! The form of a line of operating units.
 ghost use Rattle.std.specs.Prelude.{◌≡◌, not};
 ghost use Rattle.std.specs.List.{list_any};
-ghost use Rattle.text_rules.specs.Field.{has_key};
-ghost use Rattle.text_rules.specs.Fault.{unit_fault, is_beyond};
+ghost use Rattle.text_lines.specs.text_rules.Field.{has_key};
+ghost use Rattle.text_lines.specs.text_rules.Fault.{unit_fault, is_beyond};
 
 use crate::item::{Item, fields_kind};
+use text_lines::TextKind;
 use text_lines::name_set::NameSet;
-use text_rules::TextKind;
 
 const UNIT_KEYS: [&[u8]; 6] = [
     b"capacity_lower_bound",

@@ -2,15 +2,19 @@
 ghost use Rattle.std.specs.Prelude.{◌≡◌, ◌<◌, ◌^◌, length, ◌++◌, ◌&&◌, false, IfOk, OnOk, map};
 ghost use Rattle.std.specs.Prelude.{not};
 ghost use Rattle.std.specs.Prelude.{option_map, true, IfSome, is_some, find, string_bytes};
-ghost use Rattle.problem_rules.specs.Names.{is_name, is_among, has_double};
+ghost use Rattle.text_lines.specs.problem_rules.Names.{is_name, is_among, has_double};
 ghost use Rattle.std.specs.Str.{bytes_eq};
-ghost use Rattle.text_rules.specs.Line.{head_of, is_at, lines_at, heads_at};
-ghost use Rattle.text_rules.specs.Term.{pairs_at};
-ghost use Rattle.text_rules.specs.Value.{item_fields, settings_of, material_from, unit_from};
-ghost use Rattle.text_rules.specs.Value.{materials_from, term_from, sides_named, listed_unit};
-ghost use Rattle.text_rules.specs.Value.{bare_unit, bare_lines, units_from, unit_names_from};
-ghost use Rattle.text_rules.specs.Value.{numbers_among, exclusion_named, exclusions_from};
-ghost use Rattle.text_rules.specs.Value.{problem_from};
+ghost use Rattle.text_lines.specs.text_rules.Line.{head_of, is_at, lines_at, heads_at};
+ghost use Rattle.text_lines.specs.text_rules.Term.{pairs_at};
+ghost use Rattle.text_lines.specs.text_rules.Value.{item_fields, settings_of, material_from};
+ghost use Rattle.text_lines.specs.text_rules.Value.{unit_from};
+ghost use Rattle.text_lines.specs.text_rules.Value.{materials_from, term_from, sides_named};
+ghost use Rattle.text_lines.specs.text_rules.Value.{listed_unit};
+ghost use Rattle.text_lines.specs.text_rules.Value.{bare_unit, bare_lines, units_from};
+ghost use Rattle.text_lines.specs.text_rules.Value.{unit_names_from};
+ghost use Rattle.text_lines.specs.text_rules.Value.{numbers_among, exclusion_named};
+ghost use Rattle.text_lines.specs.text_rules.Value.{exclusions_from};
+ghost use Rattle.text_lines.specs.text_rules.Value.{problem_from};
 ghost use Rattle.text_lines.specs.View.{texts};
 ghost use Rattle.text_lines.specs.Terms.{term_view, terms_view, sides_view};
 
@@ -23,8 +27,7 @@ use std::alloc::{AllocError, Global};
 use std::str;
 use text_lines::amount::millionths;
 use text_lines::name_set::{NameSet, once};
-use text_lines::term;
-use text_rules::Section;
+use text_lines::{Section, term};
 
 // The name as a string: a name is ASCII, and so UTF-8.
 #[tactic(auto, using(text_lines::proofs::Ascii::name_utf8))]

@@ -2,8 +2,8 @@
 ghost use Rattle.std.specs.Prelude.{◌≡◌, ◌<◌, ◌+◌, ◌-◌, ◌∷◌, ◌^◌, ℕ, List, IfOk, IfErr};
 ghost use Rattle.std.specs.Prelude.{OnOk};
 ghost use Rattle.std.specs.Prelude.{length};
-ghost use Rattle.text_rules.specs.Fault.{line_fault};
-ghost use Rattle.text_rules.specs.Value.{meaning_at, read_text};
+ghost use Rattle.text_lines.specs.text_rules.Fault.{line_fault};
+ghost use Rattle.text_lines.specs.text_rules.Value.{meaning_at, read_text};
 ghost use Rattle.text_lines.specs.Tells.{Tells};
 ghost use Rattle.pns_text.specs.Cut.{Keeps};
 ghost use Rattle.pns_text.specs.Fault.{TellsKind};
@@ -18,7 +18,7 @@ use std::alloc::{AllocError, Global};
 use text_lines::line::{head_of, without_mark};
 use text_lines::lines::{Drops, Lines};
 use text_lines::section::{is_header, section_after};
-use text_rules::{Section, TextKind};
+use text_lines::{Section, TextKind};
 
 /// What was seen, the lines that matter so far, and the section of the next line.
 #[derive(Drop)]

@@ -1,4 +1,5 @@
 pub mod AmountLemmas
+pub mod Cited
 pub mod ItemLemmas
 pub mod RefusalLemmas
 pub mod TermLemmas

@@ -1,9 +1,9 @@
 -- The answer is the one answer that the ranking has, unless there is no memory.
 use Rattle.std.proofs.Common.{ℕ, false, [], Result, Ok, Err, OnOk, IfErr, refl, ap₂, inl, inr}
-use Rattle.problem_rules.specs.Problem.{Problem}
-use Rattle.rank_rules.specs.declared.why.RankWhy.{RankWhy}
-use Rattle.rank_rules.specs.Networks.{ArePassing}
-use Rattle.rank_rules.specs.Ranked.{Ranking, IsRanked, NetworkIsFault, NodeIsFault}
+use Rattle.rank_laws.specs.problem_rules.Problem.{Problem}
+use Rattle.rank_laws.specs.rank_rules.declared.why.RankWhy.{RankWhy}
+use Rattle.rank_laws.specs.rank_rules.Networks.{ArePassing}
+use Rattle.rank_laws.specs.rank_rules.Ranked.{Ranking, IsRanked, NetworkIsFault, NodeIsFault}
 use Rattle.rank_laws.specs.Laws.{PassingNetworksHaveNoFault, NetworksHaveOneFault}
 use Rattle.rank_laws.specs.Laws.{PassingTreeHasNoFault, TreeHasOneFault}
 use Rattle.rank_check.specs.declared.refusal.RankRefusal.{RankRefusal}

@@ -3,22 +3,22 @@ use Rattle.std.proofs.Common.{◌≡◌, ℕ, ◌+◌, Bool, false, List, [], �
 use Rattle.std.proofs.Common.{OnOk}
 use Rattle.std.proofs.Common.{IfErr, sym, subst, arith}
 use Rattle.std.proofs.lemmas.List.{append-nil}
-use Rattle.problem_rules.specs.Problem.{Problem}
-use Rattle.pns_rules.specs.Shape.{shape_of}
-use Rattle.tree_rules.specs.declared.why.Why.{Why}
-use Rattle.tree_rules.specs.Fault.{IsFirstFault}
-use Rattle.tree_rules.specs.Claim.{Network}
-use Rattle.tree_rules.specs.Accepted.{first_node}
-use Rattle.tree_text_rules.specs.OpenLeaves.{OpenAt, open_leaves}
+use Rattle.rank_laws.specs.problem_rules.Problem.{Problem}
+use Rattle.rank_laws.specs.pns_rules.Shape.{shape_of}
+use Rattle.rank_laws.specs.tree_rules.declared.why.Why.{Why}
+use Rattle.rank_laws.specs.tree_rules.Fault.{IsFirstFault}
+use Rattle.rank_laws.specs.tree_rules.Claim.{Network}
+use Rattle.rank_laws.specs.tree_rules.Accepted.{first_node}
+use Rattle.rank_laws.specs.tree_text_rules.OpenLeaves.{OpenAt, open_leaves}
 use Rattle.cert_check.specs.Bare.{BarePasses, BareFails}
 use Rattle.cert_check.specs.OpenLeaves.{AreThoseBefore}
-use Rattle.rank_rules.specs.declared.why.RankWhy.{RankWhy}
-use Rattle.rank_rules.specs.declared.why.RankWhy.TheVariants.{Plain}
-use Rattle.rank_rules.specs.Networks.{to_undercut, ArePassing}
-use Rattle.rank_rules.specs.Leaf.{LeafPasses, LeafFails}
-use Rattle.rank_rules.specs.Ranked.{IsRanked, NodeIsFault}
-use Rattle.rank_rules.specs.Marked.{Mark}
-use Rattle.rank_rules.specs.Text.{Text, ranking_of}
+use Rattle.rank_laws.specs.rank_rules.declared.why.RankWhy.{RankWhy}
+use Rattle.rank_laws.specs.rank_rules.declared.why.RankWhy.TheVariants.{Plain}
+use Rattle.rank_laws.specs.rank_rules.Networks.{to_undercut, ArePassing}
+use Rattle.rank_laws.specs.rank_rules.Leaf.{LeafPasses, LeafFails}
+use Rattle.rank_laws.specs.rank_rules.Ranked.{IsRanked, NodeIsFault}
+use Rattle.rank_laws.specs.rank_rules.Marked.{Mark}
+use Rattle.rank_laws.specs.rank_rules.Text.{Text, ranking_of}
 use Rattle.rank_check.specs.Marks.{MarksPass, IsFirstMark, AreKnown, AllMarksPass, MarkIsFault}
 use Rattle.rank_check.specs.Refusals.{PlainPasses, OpenPass, OpenFails}
 use Rattle.rank_check.proofs.MarkLemmas.{marked_passes, marked_fault, mark_fault, pass_to, fault_to}

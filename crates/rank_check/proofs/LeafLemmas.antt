@@ -3,23 +3,23 @@ use Rattle.std.proofs.Common.{◌≡◌, ◌⊎◌, ◌↔◌, ℕ, zero, suc, �
 use Rattle.std.proofs.Common.{false, not, ◌&&◌, ◌||◌, nat_lt, List, [], ◌∷◌, length, get_or, Option}
 use Rattle.std.proofs.Common.{Some, None, Result, Ok, Err, IfErr, IsTrue, refl, sym, ap, ◌∙◌, subst}
 use Rattle.std.proofs.Common.{inl, inr, arith}
-use Rattle.number_sets.specs.Sets.{has, union, IsWithin}
-use Rattle.number_sets.proofs.SetLemmas.{has-union}
-use Rattle.problem_rules.specs.Problem.{Problem}
-use Rattle.pns_rules.specs.Nodes.{Node}
-use Rattle.tree_rules.specs.declared.why.Why.{Why}
-use Rattle.tree_rules.specs.declared.why.Why.TheVariants as causes
-use Rattle.tree_rules.specs.Fault.{Fails}
-use Rattle.tree_rules.specs.Claim.{Network, CostOver}
-use Rattle.tree_rules.specs.Leaf as leaves
-use Rattle.tree_rules.specs.Leaf.{IsOneEach, IsFormed, Reaches}
-use Rattle.rank_rules.specs.declared.why.RankWhy.{RankWhy}
-use Rattle.rank_rules.specs.declared.why.RankWhy.TheVariants.{Plain}
-use Rattle.rank_rules.specs.Networks.{cost_of, network_at, numbered}
-use Rattle.rank_rules.specs.declared.naming.Naming.{Naming}
-use Rattle.rank_rules.specs.declared.naming.Naming.TheVariants.{Only, Within}
-use Rattle.rank_rules.specs.Leaf.{IsOnly, IsTakenIn, MayName, IsNamed, way_why}
-use Rattle.rank_rules.specs.Marked.{Name}
+use Rattle.rank_laws.specs.number_sets.Sets.{has, union, IsWithin}
+use Rattle.rank_laws.proofs.number_sets.Cited.{has-union}
+use Rattle.rank_laws.specs.problem_rules.Problem.{Problem}
+use Rattle.rank_laws.specs.pns_rules.Nodes.{Node}
+use Rattle.rank_laws.specs.tree_rules.declared.why.Why.{Why}
+use Rattle.rank_laws.specs.tree_rules.declared.why.Why.TheVariants as causes
+use Rattle.rank_laws.specs.tree_rules.Fault.{Fails}
+use Rattle.rank_laws.specs.tree_rules.Claim.{Network, CostOver}
+use Rattle.rank_laws.specs.tree_rules.Leaf as leaves
+use Rattle.rank_laws.specs.tree_rules.Leaf.{IsOneEach, IsFormed, Reaches}
+use Rattle.rank_laws.specs.rank_rules.declared.why.RankWhy.{RankWhy}
+use Rattle.rank_laws.specs.rank_rules.declared.why.RankWhy.TheVariants.{Plain}
+use Rattle.rank_laws.specs.rank_rules.Networks.{cost_of, network_at, numbered}
+use Rattle.rank_laws.specs.rank_rules.declared.naming.Naming.{Naming}
+use Rattle.rank_laws.specs.rank_rules.declared.naming.Naming.TheVariants.{Only, Within}
+use Rattle.rank_laws.specs.rank_rules.Leaf.{IsOnly, IsTakenIn, MayName, IsNamed, way_why}
+use Rattle.rank_laws.specs.rank_rules.Marked.{Name}
 use Rattle.rank_check.specs.Marks.{NamedFails}
 
 -- ---- a node that is the network alone

@@ -4,32 +4,33 @@ use Rattle.std.proofs.Common.{◌≡◌, ◌⊎◌, ℕ, zero, suc, ◌+◌, ◌
 use Rattle.std.proofs.Common.{◌∷◌}
 use Rattle.std.proofs.Common.{◌++◌, length, Option, Some, None, refl, sym, ap, ◌∙◌, subst, inl, inr}
 use Rattle.std.proofs.Common.{arith}
-use Rattle.problem_rules.specs.Problem.{Problem}
-use Rattle.pns_rules.specs.Shape.{Shape, shape_of}
-use Rattle.pns_rules.specs.Nodes.{Node}
-use Rattle.tree_rules.specs.declared.why.Why.{Why}
-use Rattle.tree_rules.specs.declared.why.Why.TheVariants as causes
-use Rattle.tree_rules.specs.Ways.{width, MayBranch, options_at}
-use Rattle.tree_rules.specs.Tree as trees
-use Rattle.tree_rules.specs.Tree.{End, branch, leaf, TreeNode, StepsPass, after_all, below}
-use Rattle.tree_rules.specs.Tree.{EndPasses, Pass}
-use Rattle.tree_rules.specs.Fault.{Fails, EndFails, NodeFails, IsFirstFault}
-use Rattle.tree_rules.specs.Claim.{Network, CostOver}
-use Rattle.tree_rules.specs.Leaf as leaves
-use Rattle.tree_rules.specs.Accepted as plain_trees
-use Rattle.tree_rules.specs.Accepted.{first_node}
-use Rattle.tree_text_rules.specs.OpenLeaves.{OpenAt, open_here, open_leaves}
-use Rattle.rank_rules.specs.declared.why.RankWhy.{RankWhy}
-use Rattle.rank_rules.specs.declared.why.RankWhy.TheVariants.{Plain}
-use Rattle.rank_rules.specs.Leaf.{Leaf, plain, named, LeafPasses, LeafFails, IsTold}
-use Rattle.rank_rules.specs.Ranked.{IsToldAt}
-use Rattle.rank_rules.specs.Marked.{Mark, marked_leaf, first_mark, marked_end, marks_behind, marked}
+use Rattle.rank_laws.specs.problem_rules.Problem.{Problem}
+use Rattle.rank_laws.specs.pns_rules.Shape.{Shape, shape_of}
+use Rattle.rank_laws.specs.pns_rules.Nodes.{Node}
+use Rattle.rank_laws.specs.tree_rules.declared.why.Why.{Why}
+use Rattle.rank_laws.specs.tree_rules.declared.why.Why.TheVariants as causes
+use Rattle.rank_laws.specs.tree_rules.Ways.{width, MayBranch, options_at}
+use Rattle.rank_laws.specs.tree_rules.Tree as trees
+use Rattle.rank_laws.specs.tree_rules.Tree.{End, branch, leaf, TreeNode, StepsPass, after_all}
+use Rattle.rank_laws.specs.tree_rules.Tree.{below}
+use Rattle.rank_laws.specs.tree_rules.Tree.{EndPasses, Pass}
+use Rattle.rank_laws.specs.tree_rules.Fault.{Fails, EndFails, NodeFails, IsFirstFault}
+use Rattle.rank_laws.specs.tree_rules.Claim.{Network, CostOver}
+use Rattle.rank_laws.specs.tree_rules.Leaf as leaves
+use Rattle.rank_laws.specs.tree_rules.Accepted as plain_trees
+use Rattle.rank_laws.specs.tree_rules.Accepted.{first_node}
+use Rattle.rank_laws.specs.tree_text_rules.OpenLeaves.{OpenAt, open_here, open_leaves}
+use Rattle.rank_laws.specs.rank_rules.declared.why.RankWhy.{RankWhy}
+use Rattle.rank_laws.specs.rank_rules.declared.why.RankWhy.TheVariants.{Plain}
+use Rattle.rank_laws.specs.rank_rules.Leaf.{Leaf, plain, named, LeafPasses, LeafFails, IsTold}
+use Rattle.rank_laws.specs.rank_rules.Ranked.{IsToldAt}
+use Rattle.rank_laws.specs.rank_rules.Marked.{Mark, marked_leaf, first_mark, marked_end}
+use Rattle.rank_laws.specs.rank_rules.Marked.{marks_behind, marked}
 use Rattle.cert_check.specs.Known.{KnowsInside}
 use Rattle.cert_check.specs.Bare.{BarePasses, BareFails}
 use Rattle.cert_check.specs.Subtrees.{AllKnown}
 use Rattle.cert_check.specs.OpenLeaves.{AllBefore, NoneBefore}
-use Rattle.cert_check.proofs.KnownLemmas.{known_after_all, known_below, known_both}
-use Rattle.cert_check.proofs.TurnLemmas.{none_before}
+use Rattle.cert_check.proofs.Cited.{known_after_all, known_below, known_both, none_before}
 use Rattle.rank_check.specs.Marks.{MarksPass, IsFirstMark, AreKnown}
 
 -- ---- the form of the tree stays

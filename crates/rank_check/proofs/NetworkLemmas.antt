@@ -4,14 +4,16 @@ use Rattle.std.proofs.Common.{List, [], ◌∷◌, length, drop, get_or, refl, s
 use Rattle.std.proofs.Common.{IsTrue, ◌==◌, ◌||◌, ◌⊎◌, inl, inr, cond, Option, Some, None, ℤ, ◌*ℤ◌}
 use Rattle.std.proofs.Common.{◌≤ℤ◌, Result, Ok, Err, OnOk, IfErr}
 use Rattle.std.proofs.lemmas.List.{drop_all}
-use Rattle.number_sets.specs.Sets.{has, IsWithin}
-use Rattle.problem_rules.specs.Problem.{Problem}
-use Rattle.tree_rules.specs.Claim.{Network, CostOver, IsFeasible}
-use Rattle.rank_rules.specs.declared.why.RankWhy.{RankWhy}
-use Rattle.rank_rules.specs.Networks.{cost_of, last_cost, to_undercut, RisesFrom, AreAlike}
-use Rattle.rank_rules.specs.Networks.{OrderFails}
-use Rattle.rank_rules.specs.Networks.{IsNewTo, IsInOrder, ArePassing, NetworkFails, IsFirstOff}
-use Rattle.cert_check.proofs.EndLemmas.{node_ahead}
+use Rattle.rank_laws.specs.number_sets.Sets.{has, IsWithin}
+use Rattle.rank_laws.specs.problem_rules.Problem.{Problem}
+use Rattle.rank_laws.specs.tree_rules.Claim.{Network, CostOver, IsFeasible}
+use Rattle.rank_laws.specs.rank_rules.declared.why.RankWhy.{RankWhy}
+use Rattle.rank_laws.specs.rank_rules.Networks.{cost_of, last_cost, to_undercut, RisesFrom}
+use Rattle.rank_laws.specs.rank_rules.Networks.{AreAlike}
+use Rattle.rank_laws.specs.rank_rules.Networks.{OrderFails}
+use Rattle.rank_laws.specs.rank_rules.Networks.{IsNewTo, IsInOrder, ArePassing, NetworkFails}
+use Rattle.rank_laws.specs.rank_rules.Networks.{IsFirstOff}
+use Rattle.cert_check.proofs.Cited.{node_ahead}
 use Rattle.rank_check.specs.Earlier.{earlier_on, earlier}
 
 earlier_more : (i : ℕ) (before ws : List Network) (w : Network) → i < length ws → w ≡ get_or ws i w

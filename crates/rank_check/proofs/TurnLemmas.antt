@@ -2,22 +2,22 @@
 use Rattle.std.proofs.Common.{◌≡◌, ℕ, zero, suc, ◌+◌, ◌<◌, ◌≤◌, Bool, false, List, [], ◌∷◌, length}
 use Rattle.std.proofs.Common.{drop}
 use Rattle.std.proofs.Common.{map, get_or, Option, None, refl, sym, ap, ◌∙◌, subst, inl, inr, arith}
-use Rattle.problem_rules.specs.Problem.{Problem}
-use Rattle.pns_rules.specs.Nodes.{Node}
-use Rattle.tree_rules.specs.declared.why.Why.TheVariants as causes
-use Rattle.tree_rules.specs.Claim.{Network, CostOver}
-use Rattle.tree_text_rules.specs.OpenLeaves.{OpenAt}
-use Rattle.cert_check.proofs.NodeLemmas.{step_ahead, none_ahead}
-use Rattle.rank_rules.specs.declared.why.RankWhy.{RankWhy}
-use Rattle.rank_rules.specs.declared.why.RankWhy.TheVariants.{Plain}
-use Rattle.rank_rules.specs.Leaf.{LeafPasses, LeafFails}
-use Rattle.rank_rules.specs.Marked.{Mark, marked_leaf, first_mark, other_marks}
+use Rattle.rank_laws.specs.problem_rules.Problem.{Problem}
+use Rattle.rank_laws.specs.pns_rules.Nodes.{Node}
+use Rattle.rank_laws.specs.tree_rules.declared.why.Why.TheVariants as causes
+use Rattle.rank_laws.specs.tree_rules.Claim.{Network, CostOver}
+use Rattle.rank_laws.specs.tree_text_rules.OpenLeaves.{OpenAt}
+use Rattle.cert_check.proofs.Cited.{step_ahead, none_ahead}
+use Rattle.rank_laws.specs.rank_rules.declared.why.RankWhy.{RankWhy}
+use Rattle.rank_laws.specs.rank_rules.declared.why.RankWhy.TheVariants.{Plain}
+use Rattle.rank_laws.specs.rank_rules.Leaf.{LeafPasses, LeafFails}
+use Rattle.rank_laws.specs.rank_rules.Marked.{Mark, marked_leaf, first_mark, other_marks}
 use Rattle.rank_check.specs.declared.mark.Mark as code
 use Rattle.rank_check.specs.View.{mark_of}
 use Rattle.rank_check.specs.Marks.{MarksPass, MarkFails, IsFirstMark, AllMarksPass, MarkIsFault}
 use Rattle.rank_check.specs.Marks.{AreKnown}
 use Rattle.cert_check.specs.Known.{KnowsInside}
-use Rattle.pns_rules.specs.Shape.{shape_of}
+use Rattle.rank_laws.specs.pns_rules.Shape.{shape_of}
 
 pub map_ahead : {X Y : Type 0} (f : X → Y) (xs : List X) (i : ℕ) (x : X) → i < length xs
     → x ≡ get_or xs i x → drop i (map f xs) ≡ f x ∷ drop (i + 1) (map f xs)

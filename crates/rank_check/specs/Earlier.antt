@@ -1,6 +1,6 @@
 -- The networks before a place of a list, from the last on.
 use Rattle.std.specs.Prelude.{ℕ, zero, suc, List, [], ◌∷◌}
-use Rattle.tree_rules.specs.Claim.{Network}
+use Rattle.rank_laws.specs.tree_rules.Claim.{Network}
 
 abbrev pub earlier_on : ℕ → List Network → List Network → List Network
 earlier_on zero before ws = before

@@ -2,21 +2,22 @@
 -- one fails.
 use Rattle.std.specs.Prelude.{◌≡◌, ◌⊎◌, ℕ, ℤ, pos, ◌≤ℤ◌, Bool, false, List, [], ◌∷◌, Option}
 use Rattle.std.specs.Prelude.{None}
-use Rattle.problem_rules.specs.Problem.{Problem}
-use Rattle.pns_rules.specs.Nodes.{Node}
-use Rattle.tree_rules.specs.declared.why.Why.{Why}
-use Rattle.tree_rules.specs.declared.why.Why.TheVariants.{Bound, Sum}
-use Rattle.tree_rules.specs.Fault.{Fails}
-use Rattle.tree_rules.specs.Tree.{leaf}
-use Rattle.tree_rules.specs.Claim.{Network, CostOver}
-use Rattle.tree_rules.specs.Leaf.{IsOneEach, IsFormed, Reaches}
-use Rattle.tree_text_rules.specs.OpenLeaves.{OpenAt}
-use Rattle.pns_rules.specs.Shape.{shape_of}
+use Rattle.rank_laws.specs.problem_rules.Problem.{Problem}
+use Rattle.rank_laws.specs.pns_rules.Nodes.{Node}
+use Rattle.rank_laws.specs.tree_rules.declared.why.Why.{Why}
+use Rattle.rank_laws.specs.tree_rules.declared.why.Why.TheVariants.{Bound, Sum}
+use Rattle.rank_laws.specs.tree_rules.Fault.{Fails}
+use Rattle.rank_laws.specs.tree_rules.Tree.{leaf}
+use Rattle.rank_laws.specs.tree_rules.Claim.{Network, CostOver}
+use Rattle.rank_laws.specs.tree_rules.Leaf.{IsOneEach, IsFormed, Reaches}
+use Rattle.rank_laws.specs.tree_text_rules.OpenLeaves.{OpenAt}
+use Rattle.rank_laws.specs.pns_rules.Shape.{shape_of}
 use Rattle.cert_check.specs.Known.{KnowsInside}
-use Rattle.rank_rules.specs.declared.why.RankWhy.{RankWhy}
-use Rattle.rank_rules.specs.declared.why.RankWhy.TheVariants.{Plain}
-use Rattle.rank_rules.specs.Leaf.{Leaf, LeafPasses, LeafFails, MayName, named_cost, way_why, IsTold}
-use Rattle.rank_rules.specs.Marked.{Mark, Name, marked_leaf, first_mark, other_marks}
+use Rattle.rank_laws.specs.rank_rules.declared.why.RankWhy.{RankWhy}
+use Rattle.rank_laws.specs.rank_rules.declared.why.RankWhy.TheVariants.{Plain}
+use Rattle.rank_laws.specs.rank_rules.Leaf.{Leaf, LeafPasses, LeafFails, MayName, named_cost}
+use Rattle.rank_laws.specs.rank_rules.Leaf.{way_why, IsTold}
+use Rattle.rank_laws.specs.rank_rules.Marked.{Mark, Name, marked_leaf, first_mark, other_marks}
 
 -- each leaf passes as what its mark makes of it
 abbrev pub MarksPass : (Node → Leaf → Type 0) → List OpenAt → List Mark → Type 0

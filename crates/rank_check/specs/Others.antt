@@ -1,10 +1,10 @@
 -- The clash-free solution structures that are those of no listed network.
 use Rattle.std.specs.Prelude.{ℕ, Bool, List}
-use Rattle.problem_rules.specs.Problem.{Problem}
-use Rattle.pns_rules.specs.Shape.{shape_of}
-use Rattle.pns_rules.specs.Structure.{IsStructure, IsAllowed}
-use Rattle.tree_rules.specs.Claim.{Network}
-use Rattle.rank_rules.specs.Networks.{IsListed}
+use Rattle.rank_laws.specs.problem_rules.Problem.{Problem}
+use Rattle.rank_laws.specs.pns_rules.Shape.{shape_of}
+use Rattle.rank_laws.specs.pns_rules.Structure.{IsStructure, IsAllowed}
+use Rattle.rank_laws.specs.tree_rules.Claim.{Network}
+use Rattle.rank_laws.specs.rank_rules.Networks.{IsListed}
 
 -- P is true of each of them
 abbrev pub AllOthers : Problem → List Network → ((ℕ → Bool) → Type 0) → Type 0

@@ -1,19 +1,19 @@
 -- What a refusal says of a ranking. `Memory`, out of memory, says nothing. It is the only answer
 -- that may come instead of another.
 use Rattle.std.specs.Prelude.{◌≡◌, ◌⊎◌, ℕ, false, List, [], ◌∷◌, Result, Ok, Err}
-use Rattle.problem_rules.specs.Problem.{Problem}
-use Rattle.pns_rules.specs.Shape.{shape_of}
-use Rattle.tree_rules.specs.Tree.{Pass}
-use Rattle.tree_rules.specs.Accepted.{first_node}
-use Rattle.tree_text_rules.specs.OpenLeaves.{OpenAt}
-use Rattle.tree_rules.specs.declared.refusal.Refusal as plain
+use Rattle.rank_laws.specs.problem_rules.Problem.{Problem}
+use Rattle.rank_laws.specs.pns_rules.Shape.{shape_of}
+use Rattle.rank_laws.specs.tree_rules.Tree.{Pass}
+use Rattle.rank_laws.specs.tree_rules.Accepted.{first_node}
+use Rattle.rank_laws.specs.tree_text_rules.OpenLeaves.{OpenAt}
+use Rattle.rank_laws.specs.tree_rules.declared.refusal.Refusal as plain
 use Rattle.cert_check.specs.Bare.{BarePasses, BareFails}
 use Rattle.cert_check.specs.Refusals.{NamesFault}
-use Rattle.rank_rules.specs.declared.why.RankWhy.{RankWhy}
-use Rattle.rank_rules.specs.Leaf.{LeafPasses, LeafFails}
-use Rattle.rank_rules.specs.Networks.{to_undercut, ArePassing}
-use Rattle.rank_rules.specs.Ranked.{Ranking, NetworkIsFault, NodeIsFault}
-use Rattle.rank_rules.specs.Text.{Text}
+use Rattle.rank_laws.specs.rank_rules.declared.why.RankWhy.{RankWhy}
+use Rattle.rank_laws.specs.rank_rules.Leaf.{LeafPasses, LeafFails}
+use Rattle.rank_laws.specs.rank_rules.Networks.{to_undercut, ArePassing}
+use Rattle.rank_laws.specs.rank_rules.Ranked.{Ranking, NetworkIsFault, NodeIsFault}
+use Rattle.rank_laws.specs.rank_rules.Text.{Text}
 use Rattle.rank_check.specs.Marks.{MarksPass, IsFirstMark}
 use Rattle.rank_check.specs.declared.refusal.RankRefusal.{RankRefusal}
 use Rattle.rank_check.specs.declared.refusal.RankRefusal.TheVariants.{Memory, Network, Node}

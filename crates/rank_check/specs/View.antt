@@ -3,7 +3,7 @@ use Rattle.std.specs.Prelude.{Some, None}
 use Rattle.rank_check.specs.declared.mark.Mark.{Mark}
 use Rattle.rank_check.specs.declared.mark.Mark.TheVariants.{Open, Named}
 use Rattle.rank_check.specs.declared.mark.Name.{Name}
-use Rattle.rank_rules.specs.Marked as specs
+use Rattle.rank_laws.specs.rank_rules.Marked as specs
 
 abbrev pub name_of : Name → specs.Name
 name_of n = record { way = n.way; network = n.network; d = n.scaled.d; ys = n.scaled.ys }

@@ -1,45 +1,39 @@
 //! Whole ranked trees.
 ghost use Rattle.std.specs.Prelude.{◌≡◌, ◌<◌, ◌^◌, [], ◌∷◌, ℕ, ℤ, true, false, Some, length, OnOk};
 ghost use Rattle.std.specs.Prelude.{IfOk, IfErr};
-ghost use Rattle.number_sets.specs.Sets.{has};
-ghost use Rattle.pns_rules.specs.Shape.{shape_of};
-ghost use Rattle.flow_rules.specs.Net.{net_of};
-ghost use Rattle.flow_rules.specs.Flows.{IsFlows};
-ghost use Rattle.tree_rules.specs.Claim as rules;
-ghost use Rattle.tree_rules.specs.Accepted.{first_node};
-ghost use Rattle.tree_rules.specs.Costs.{CostsEnough};
-ghost use Rattle.tree_text_rules.specs.OpenLeaves.{open_leaves};
+ghost use Rattle.rank_laws.specs.number_sets.Sets.{has};
+ghost use Rattle.rank_laws.specs.pns_rules.Shape.{shape_of};
+ghost use Rattle.rank_laws.specs.flow_rules.Net.{net_of};
+ghost use Rattle.rank_laws.specs.flow_rules.Flows.{IsFlows};
+ghost use Rattle.rank_laws.specs.tree_rules.Claim as rules;
+ghost use Rattle.rank_laws.specs.tree_rules.Accepted.{first_node};
+ghost use Rattle.rank_laws.specs.tree_rules.Costs.{CostsEnough};
+ghost use Rattle.rank_laws.specs.tree_text_rules.OpenLeaves.{open_leaves};
 ghost use Rattle.cert_check.specs.Shown.{cost_over};
 ghost use Rattle.cert_check.specs.OpenLeaves.{leaves_at, AreBefore};
-ghost use Rattle.rank_rules.specs.declared.why.RankWhy.{RankWhy};
-ghost use Rattle.rank_rules.specs.Networks as ranks;
-ghost use Rattle.rank_rules.specs.Networks.{to_undercut, numbered, last_cost, ArePassing};
-ghost use Rattle.rank_rules.specs.Alternatives.{IsRight};
-ghost use Rattle.rank_rules.specs.Ranked.{IsRanked, NetworkIsFault, NodeIsFault};
-ghost use Rattle.rank_rules.specs.Text.{ranking_of};
+ghost use Rattle.rank_laws.specs.rank_rules.declared.why.RankWhy.{RankWhy};
+ghost use Rattle.rank_laws.specs.rank_rules.Networks as ranks;
+ghost use Rattle.rank_laws.specs.rank_rules.Networks.{to_undercut, numbered, last_cost, ArePassing};
+ghost use Rattle.rank_laws.specs.rank_rules.Alternatives.{IsRight};
+ghost use Rattle.rank_laws.specs.rank_rules.Ranked.{IsRanked, NetworkIsFault, NodeIsFault};
+ghost use Rattle.rank_laws.specs.rank_rules.Text.{ranking_of};
 ghost use Rattle.rank_check.specs.declared.refusal.RankRefusal.TheVariants as refusals;
 ghost use Rattle.rank_check.specs.Marks.{AreKnown};
 ghost use Rattle.rank_check.specs.Others.{AllOthers};
 ghost use Rattle.rank_check.specs.Refusals.{PlainPasses, NamesPlainFault, OpenPass, OpenFails};
 ghost use Rattle.rank_check.specs.Refusals.{IsNodeAnswer, Refuses, IsOkOrMemory, IsRefusalOrMemory};
 
+use crate::RankText;
 use crate::leaf::cost_of;
 use crate::marks::judge_marks;
 use crate::networks::judge_networks;
 use crate::refusal::RankRefusal;
-use branch_tree::Network;
-use cert_check::{OpenLeaf, Stop, check_nodes};
-use exact_numbers::CostOver;
-use pgraph::Site;
+use cert_check::{CostOver, Network, Node, OpenLeaf, Site, Stop, UnitSet, check_nodes};
 use rank_laws::{
-    alternatives_are_right, listed_are_least, network_has_one_fault, others_are_no_better,
-    ranking_has_one_fault,
+    RankWhy, Refusal, alternatives_are_right, listed_are_least, network_has_one_fault,
+    others_are_no_better, ranking_has_one_fault,
 };
-use rank_rules::RankWhy;
-use crate::RankText;
 use std::alloc::Global;
-use tree_rules::Refusal;
-use unit_sets::{Node, UnitSet};
 
 /// The cost that is to be undercut: that of the last network, if there are as many as were asked
 /// for.

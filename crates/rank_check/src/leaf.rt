@@ -1,27 +1,22 @@
 //! Leaves that name a network.
 ghost use Rattle.std.specs.Prelude.{◌≡◌, ◌⊎◌, ◌↔◌, Some, None, IsTrue, IfSome, IfNone, OnOk};
 ghost use Rattle.std.specs.Prelude.{IfErr};
-ghost use Rattle.tree_rules.specs.declared.why.Why.TheVariants as causes;
-ghost use Rattle.pns_rules.specs.Shape.{shape_of};
-ghost use Rattle.pgraph.specs.View.{node_of};
+ghost use Rattle.rank_laws.specs.tree_rules.declared.why.Why.TheVariants as causes;
+ghost use Rattle.rank_laws.specs.pns_rules.Shape.{shape_of};
+ghost use Rattle.cert_check.specs.pgraph.View.{node_of};
 ghost use Rattle.cert_check.specs.Known.{KnowsInside};
 ghost use Rattle.cert_check.specs.Shown.{cost_over};
-ghost use Rattle.rank_rules.specs.Networks as ranks;
-ghost use Rattle.rank_rules.specs.Networks.{numbered};
-ghost use Rattle.rank_rules.specs.Leaf.{IsOnly, IsTakenIn, MayName, IsNamed, way_why};
-ghost use Rattle.rank_rules.specs.declared.why.RankWhy.TheVariants as whys;
+ghost use Rattle.rank_laws.specs.rank_rules.Networks as ranks;
+ghost use Rattle.rank_laws.specs.rank_rules.Networks.{numbered};
+ghost use Rattle.rank_laws.specs.rank_rules.Leaf.{IsOnly, IsTakenIn, MayName, IsNamed, way_why};
+ghost use Rattle.rank_laws.specs.rank_rules.declared.why.RankWhy.TheVariants as whys;
 ghost use Rattle.rank_check.specs.View.{name_of};
 ghost use Rattle.rank_check.specs.Marks.{NamedFails};
 
-use crate::order::are_same;
-use branch_tree::Network;
-use cert_check::judge_bound;
-use exact_numbers::CostOver;
-use pgraph::Site;
-use rank_rules::{Naming, RankWhy};
 use crate::Name;
-use tree_rules::Why;
-use unit_sets::{Node, UnitSet};
+use crate::order::are_same;
+use cert_check::{CostOver, Network, Node, Site, UnitSet, judge_bound};
+use rank_laws::{Naming, RankWhy, Why};
 
 /// What the network costs.
 pub(crate) fn cost_of(network: &Network) -> CostOver

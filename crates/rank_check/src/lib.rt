@@ -26,8 +26,13 @@ mod order;
 mod refusal;
 mod text;
 
+pub use cert_check::{End, Mixed, Network, Node, Scaled, Site, Tail, Tree, TreeNode, UnitSet};
 pub use check::check_rank;
 pub use mark::{Mark, Name};
 pub use networks::judge_networks;
+pub use rank_laws::{
+    Naming, RankWhy, accepted_is_optimal, alternatives_are_right, listed_are_least,
+    network_has_one_fault, others_are_no_better, ranking_has_one_fault,
+};
 pub use refusal::RankRefusal;
 pub use text::{Asked, RankText};

@@ -1,23 +1,19 @@
 //! The open leaves of the tree, each judged by its mark.
 ghost use Rattle.std.specs.Prelude.{◌≡◌, false, map, drop, Option, None, OnOk, IfErr};
-ghost use Rattle.tree_rules.specs.Claim as rules;
-ghost use Rattle.pns_rules.specs.Shape.{shape_of};
-ghost use Rattle.pgraph.specs.View.{node_of};
+ghost use Rattle.rank_laws.specs.tree_rules.Claim as rules;
+ghost use Rattle.rank_laws.specs.pns_rules.Shape.{shape_of};
+ghost use Rattle.cert_check.specs.pgraph.View.{node_of};
 ghost use Rattle.cert_check.specs.Known.{KnowsInside};
 ghost use Rattle.cert_check.specs.OpenLeaves.{leaves_at};
-ghost use Rattle.rank_rules.specs.Leaf.{LeafPasses, LeafFails};
-ghost use Rattle.rank_rules.specs.Marked.{marked_leaf, first_mark};
+ghost use Rattle.rank_laws.specs.rank_rules.Leaf.{LeafPasses, LeafFails};
+ghost use Rattle.rank_laws.specs.rank_rules.Marked.{marked_leaf, first_mark};
 ghost use Rattle.rank_check.specs.View.{mark_of};
 ghost use Rattle.rank_check.specs.Marks.{MarkFails, AreKnown, AllMarksPass, MarkIsFault};
 
-use crate::leaf::judge_numbered;
-use branch_tree::Network;
-use cert_check::OpenLeaf;
-use pgraph::Site;
-use rank_rules::RankWhy;
 use crate::Mark;
-use tree_rules::Why;
-use unit_sets::Node;
+use crate::leaf::judge_numbered;
+use cert_check::{Network, Node, OpenLeaf, Site};
+use rank_laws::{RankWhy, Why};
 
 /// Judges an open leaf at the node by its mark.
 fn judge_mark(

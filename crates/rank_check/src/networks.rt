@@ -1,16 +1,14 @@
 //! The list of networks.
 ghost use Rattle.std.specs.Prelude.{◌≡◌, ◌<◌, ◌+◌, ◌-◌, ◌^◌, [], false, length, OnOk, IfErr};
-ghost use Rattle.tree_rules.specs.Claim as rules;
-ghost use Rattle.tree_rules.specs.Claim.{IsFeasible};
-ghost use Rattle.rank_rules.specs.Networks.{IsInOrder, ArePassing, NetworkFails, IsFirstOff};
+ghost use Rattle.rank_laws.specs.tree_rules.Claim as rules;
+ghost use Rattle.rank_laws.specs.tree_rules.Claim.{IsFeasible};
+ghost use Rattle.rank_laws.specs.rank_rules.Networks.{IsInOrder, ArePassing, NetworkFails};
+ghost use Rattle.rank_laws.specs.rank_rules.Networks.{IsFirstOff};
 ghost use Rattle.rank_check.specs.Earlier.{earlier};
 
 use crate::order::judge_order;
-use branch_tree::Network;
-use cert_check::judge_network;
-use pgraph::Site;
-use rank_rules::RankWhy;
-use tree_rules::Why;
+use cert_check::{Network, Site, judge_network};
+use rank_laws::{RankWhy, Why};
 
 /// Judges a network as a claim.
 fn judge_alone(site: &Site<'_>, network: &Network) -> Result<(), Why>

@@ -1,15 +1,14 @@
 //! The order of the networks.
 ghost use Rattle.std.specs.Prelude.{◌≡◌, ◌<◌, ◌↔◌, ◌∷◌, ℕ, [], true, false, length, IsTrue};
 ghost use Rattle.std.specs.Prelude.{OnOk, IfErr};
-ghost use Rattle.number_sets.specs.Sets.{has};
-ghost use Rattle.rank_rules.specs.Networks.{Repeats, AreAlike, RisesFrom, IsNewTo, IsInOrder};
-ghost use Rattle.rank_rules.specs.Networks.{like_why, OrderFails};
+ghost use Rattle.rank_laws.specs.number_sets.Sets.{has};
+ghost use Rattle.rank_laws.specs.rank_rules.Networks.{Repeats, AreAlike, RisesFrom, IsNewTo};
+ghost use Rattle.rank_laws.specs.rank_rules.Networks.{IsInOrder};
+ghost use Rattle.rank_laws.specs.rank_rules.Networks.{like_why, OrderFails};
 ghost use Rattle.rank_check.specs.Earlier.{earlier};
 
-use branch_tree::Network;
-use exact_numbers::CostOver;
-use rank_rules::RankWhy;
-use unit_sets::UnitSet;
+use cert_check::{CostOver, Network, UnitSet};
+use rank_laws::RankWhy;
 
 /// Whether the two are the same units.
 pub(crate) fn are_same(a: UnitSet, b: UnitSet) -> bool

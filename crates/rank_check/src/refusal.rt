@@ -1,4 +1,4 @@
-use rank_rules::RankWhy;
+use rank_laws::RankWhy;
 
 /// Why a ranked tree is refused.
 #[derive(Clone, Copy, Debug, PartialEq, Eq)]

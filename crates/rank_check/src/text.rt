@@ -1,11 +1,11 @@
 //! Whole ranked trees.
 ghost use Rattle.std.specs.Prelude.{◌≡◌, ◌<◌, ◌^◌, length, map};
-ghost use Rattle.rank_rules.specs.Text.{IsCounted};
+ghost use Rattle.rank_laws.specs.rank_rules.Text.{IsCounted};
 ghost use Rattle.rank_check.specs.View.{mark_of};
-ghost use Rattle.branch_tree.specs.View.{tail_of};
+ghost use Rattle.cert_check.specs.branch_tree.View.{tail_of};
 
 use crate::mark::Mark;
-use branch_tree::{Network, Tail, Tree};
+use cert_check::{Network, Tail, Tree};
 use std::marker::Model;
 
 /// What was asked for.
@@ -33,9 +33,9 @@ pub struct RankText {
 
 impl Model for RankText {
     ghost use Rattle.std.specs.Prelude.{map};
-    ghost use Rattle.rank_rules.specs.Text as specs;
+    ghost use Rattle.rank_laws.specs.rank_rules.Text as specs;
     ghost use Rattle.rank_check.specs.View.{mark_of};
-    ghost use Rattle.branch_tree.specs.View.{tail_of};
+    ghost use Rattle.cert_check.specs.branch_tree.View.{tail_of};
 
     ghost Value = { specs.Text };
 

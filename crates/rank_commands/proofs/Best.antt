@@ -1,19 +1,19 @@
 -- Networks whose tree is accepted are the best.
 use Rattle.std.proofs.Common.{◌≡◌, ℕ, Bool, false, List, [], inl, inr, subst}
-use Rattle.problem_rules.specs.Problem.{Problem}
-use Rattle.problem_rules.specs.Validity.{IsValid}
-use Rattle.rank_rules.specs.Ranked.{IsRanked}
-use Rattle.rank_rules.specs.Networks.{ArePassing}
-use Rattle.rank_laws.specs.Laws.{ListedAreLeast, OthersCostEnough, OthersHaveNone}
-use Rattle.rank_laws.specs.Laws.{AlternativesAreRight}
-use Rattle.rank_rules.specs.Text.{Text, ranking_of}
+use Rattle.rank_text.specs.problem_rules.Problem.{Problem}
+use Rattle.rank_text.specs.problem_rules.Validity.{IsValid}
+use Rattle.rank_text.specs.rank_rules.Ranked.{IsRanked}
+use Rattle.rank_text.specs.rank_rules.Networks.{ArePassing}
+use Rattle.rank_text.specs.rank_laws.Laws.{ListedAreLeast, OthersCostEnough, OthersHaveNone}
+use Rattle.rank_text.specs.rank_laws.Laws.{AlternativesAreRight}
+use Rattle.rank_text.specs.rank_rules.Text.{Text, ranking_of}
 use Rattle.rank_text.specs.Laws.{ReadRanksAreSpelled}
-use Rattle.studio_rules.specs.Reading.{TwoFilesSay}
-use Rattle.text_rules.specs.State.{ShelfState, OutputsState}
-use Rattle.studio_rules.specs.Ending.{Ends}
-use Rattle.studio_rules.specs.declared.status.Status.{Status}
-use Rattle.studio_rules.specs.declared.status.Status.TheVariants.{Done}
-use Rattle.studio_rules.specs.Rankcheck.{OnRank, AreBest, FilesListBest, AcceptedAreBest}
+use Rattle.searches.specs.studio_rules.Reading.{TwoFilesSay}
+use Rattle.rank_text.specs.text_rules.State.{ShelfState, OutputsState}
+use Rattle.searches.specs.studio_rules.Ending.{Ends}
+use Rattle.searches.specs.studio_rules.declared.status.Status.{Status}
+use Rattle.searches.specs.studio_rules.declared.status.Status.TheVariants.{Done}
+use Rattle.searches.specs.studio_rules.Rankcheck.{OnRank, AreBest, FilesListBest, AcceptedAreBest}
 
 module _ (listed : ListedAreLeast) (full : OthersCostEnough) (fewer : OthersHaveNone) where
   pub are_best : (p : Problem) → IsValid p → (t : Text) → IsRanked p (ranking_of t)

@@ -1,17 +1,17 @@
 -- What a search for plants that differ found, as a list of alternatives with its text.
 use Rattle.std.proofs.Common.{◌≡◌, ◌≤◌, ℕ, true, false, List, Some, length, sym, subst}
-use Rattle.problem_rules.specs.Problem.{Problem}
-use Rattle.problem_rules.specs.Validity.{IsValid}
-use Rattle.tree_rules.specs.Known.{KnowsTail}
-use Rattle.tree_rules.specs.Tail as tails
-use Rattle.rank_rules.specs.Text.{Text, ranking_of}
-use Rattle.rank_laws.specs.Laws.{AlternativesAreRight}
-use Rattle.rank_search.specs.declared.outcome.Ranked.{Ranked}
-use Rattle.rank_search.specs.declared.outcome.Ranked.TheVariants as found
-use Rattle.rank_search.specs.DistinctListed.{IsListedTo}
-use Rattle.studio_rules.specs.Rank.{Lists}
-use Rattle.studio_rules.specs.Alternates.{Alternates, AlternatesHold, AlternatesWork}
-use Rattle.studio_rules.specs.declared.status.Status.{Status}
+use Rattle.rank_text.specs.problem_rules.Problem.{Problem}
+use Rattle.rank_text.specs.problem_rules.Validity.{IsValid}
+use Rattle.rank_text.specs.tree_rules.Known.{KnowsTail}
+use Rattle.rank_text.specs.tree_rules.Tail as tails
+use Rattle.rank_text.specs.rank_rules.Text.{Text, ranking_of}
+use Rattle.rank_text.specs.rank_laws.Laws.{AlternativesAreRight}
+use Rattle.searches.specs.rank_search.declared.outcome.Ranked.{Ranked}
+use Rattle.searches.specs.rank_search.declared.outcome.Ranked.TheVariants as found
+use Rattle.searches.specs.rank_search.DistinctListed.{IsListedTo}
+use Rattle.searches.specs.studio_rules.Rank.{Lists}
+use Rattle.searches.specs.studio_rules.Alternates.{Alternates, AlternatesHold, AlternatesWork}
+use Rattle.searches.specs.studio_rules.declared.status.Status.{Status}
 use Rattle.rank_commands.specs.Normal.{normal}
 use Rattle.rank_commands.specs.Found.{ranking_found, CanPrint, FoundSays}
 use Rattle.rank_commands.proofs.Rankings.{some_is, known_text, lists, spent_there, past_there}

@@ -2,14 +2,15 @@
 -- its text.
 use Rattle.std.proofs.Common.{◌≡◌, ◌+◌, ℕ, Bool, List, [], ◌∷◌, Some, None, length, refl, sym, ap}
 use Rattle.std.proofs.Common.{◌∙◌, subst, arith}
-use Rattle.problem_rules.specs.Each.{Each}
-use Rattle.tree_rules.specs.Tree.{TreeNode, End, branch, leaf}
-use Rattle.tree_rules.specs.Leaf as leaves
-use Rattle.tree_rules.specs.Accepted.{Tree}
-use Rattle.rank_rules.specs.Ranked as ranked
-use Rattle.rank_rules.specs.Marked.{Mark, marked, marked_node, marked_end, first_mark, other_marks}
-use Rattle.rank_rules.specs.Marked.{marks_behind}
-use Rattle.rank_rules.specs.Text.{AreNumbered, FitWays, IsBareAt, AreBare}
+use Rattle.rank_text.specs.problem_rules.Each.{Each}
+use Rattle.rank_text.specs.tree_rules.Tree.{TreeNode, End, branch, leaf}
+use Rattle.rank_text.specs.tree_rules.Leaf as leaves
+use Rattle.rank_text.specs.tree_rules.Accepted.{Tree}
+use Rattle.rank_text.specs.rank_rules.Ranked as ranked
+use Rattle.rank_text.specs.rank_rules.Marked.{Mark, marked, marked_node, marked_end, first_mark}
+use Rattle.rank_text.specs.rank_rules.Marked.{other_marks}
+use Rattle.rank_text.specs.rank_rules.Marked.{marks_behind}
+use Rattle.rank_text.specs.rank_rules.Text.{AreNumbered, FitWays, IsBareAt, AreBare}
 use Rattle.rank_text.specs.Fits.{opens, opens_at, FitsMark}
 use Rattle.rank_commands.specs.Normal.{with_mark, marks_for, IsMarkInRange}
 

@@ -1,48 +1,48 @@
 -- What a search for the best networks found, as a ranking with its text.
 use Rattle.std.proofs.Common.{◌≡◌, ◌<◌, ◌^◌, ◌++◌, ℕ, Bool, true, false, List, [], ◌∷◌, Some, Ok}
 use Rattle.std.proofs.Common.{length, flat_map, decimal, sym, ap, subst, ◌∙◌, arith}
-use Rattle.problem_rules.specs.Each.{Each}
-use Rattle.problem_rules.specs.Problem.{Problem}
-use Rattle.problem_rules.specs.Validity.{IsValid}
-use Rattle.tree_rules.specs.Tree.{IsTree}
-use Rattle.tree_rules.specs.Claim.{Network}
-use Rattle.tree_rules.specs.Lean.{IsLean}
-use Rattle.tree_rules.specs.Accepted.{first_node}
-use Rattle.tree_rules.specs.Stops.{IsSpent, IsPast}
-use Rattle.rank_rules.specs.Ranked as ranked
-use Rattle.rank_rules.specs.Ranked.{Ranking, Proves}
-use Rattle.rank_laws.specs.Laws.{ListedAreLeast, OthersCostEnough, OthersHaveNone}
-use Rattle.tree_rules.specs.Known.{KnowsTail}
-use Rattle.branch_tree.specs.Sized.{IsKept}
-use Rattle.tree_rules.specs.Tail as tails
-use Rattle.rank_rules.specs.Marked.{marked}
-use Rattle.rank_rules.specs.Text.{Text, ranking_of, IsCounted}
-use Rattle.tree_text_rules.specs.Line.{Token}
-use Rattle.tree_text_rules.specs.Spelling as trees
-use Rattle.tree_text_laws.specs.Fits.{FitsNetwork, CountsTail}
-use Rattle.rank_check.specs.Known.{KnowsNetwork}
+use Rattle.rank_text.specs.problem_rules.Each.{Each}
+use Rattle.rank_text.specs.problem_rules.Problem.{Problem}
+use Rattle.rank_text.specs.problem_rules.Validity.{IsValid}
+use Rattle.rank_text.specs.tree_rules.Tree.{IsTree}
+use Rattle.rank_text.specs.tree_rules.Claim.{Network}
+use Rattle.rank_text.specs.tree_rules.Lean.{IsLean}
+use Rattle.rank_text.specs.tree_rules.Accepted.{first_node}
+use Rattle.rank_text.specs.tree_rules.Stops.{IsSpent, IsPast}
+use Rattle.rank_text.specs.rank_rules.Ranked as ranked
+use Rattle.rank_text.specs.rank_rules.Ranked.{Ranking, Proves}
+use Rattle.rank_text.specs.rank_laws.Laws.{ListedAreLeast, OthersCostEnough, OthersHaveNone}
+use Rattle.rank_text.specs.tree_rules.Known.{KnowsTail}
+use Rattle.rank_text.specs.branch_tree.Sized.{IsKept}
+use Rattle.rank_text.specs.tree_rules.Tail as tails
+use Rattle.rank_text.specs.rank_rules.Marked.{marked}
+use Rattle.rank_text.specs.rank_rules.Text.{Text, ranking_of, IsCounted}
+use Rattle.rank_text.specs.tree_text_rules.Line.{Token}
+use Rattle.rank_text.specs.tree_text_rules.Spelling as trees
+use Rattle.rank_text.specs.tree_text_laws.Fits.{FitsNetwork, CountsTail}
+use Rattle.rank_text.specs.rank_check.Known.{KnowsNetwork}
 use Rattle.rank_text.specs.Known.{KnowsText}
-use Rattle.rank_rules.specs.Read.{read_text}
-use Rattle.rank_rules.specs.Spelling.{rank_text, rank_text_lines, file_type, count_word}
-use Rattle.rank_rules.specs.Spelling.{networks_word, distinct_lines, tree_lines}
+use Rattle.rank_text.specs.rank_rules.Read.{read_text}
+use Rattle.rank_text.specs.rank_rules.Spelling.{rank_text, rank_text_lines, file_type, count_word}
+use Rattle.rank_text.specs.rank_rules.Spelling.{networks_word, distinct_lines, tree_lines}
 use Rattle.rank_text.specs.Fits.{Fits}
-use Rattle.rank_rules.specs.Leaf.{IsOpenLeaf}
-use Rattle.rank_search.specs.declared.outcome.Ranked.{Ranked}
-use Rattle.rank_search.specs.declared.outcome.Ranked.TheVariants as found
-use Rattle.rank_search.specs.Ranked.{IsRankedTo}
-use Rattle.rank_search.specs.Told.{IsTellingOf}
+use Rattle.rank_text.specs.rank_rules.Leaf.{IsOpenLeaf}
+use Rattle.searches.specs.rank_search.declared.outcome.Ranked.{Ranked}
+use Rattle.searches.specs.rank_search.declared.outcome.Ranked.TheVariants as found
+use Rattle.searches.specs.rank_search.Ranked.{IsRankedTo}
+use Rattle.searches.specs.rank_search.Told.{IsTellingOf}
 use Rattle.rank_commands.proofs.Best.{are_best}
-use Rattle.flow_rules.specs.declared.place.Column.{Column}
-use Rattle.flow_rules.specs.declared.place.Place.{Place}
-use Rattle.tree_rules.specs.Past.{IsPastAt}
-use Rattle.studio_rules.specs.Solve.{status_of}
-use Rattle.searches.proofs.Counted.{tree_counted}
-use Rattle.studio_rules.specs.Lines.{text_of}
-use Rattle.studio_rules.specs.Printed.{spelled, OneAnswer}
-use Rattle.studio_rules.specs.declared.status.Status.{Status}
-use Rattle.command_files.proofs.Printing.{spelled_text}
+use Rattle.rank_text.specs.flow_rules.declared.place.Column.{Column}
+use Rattle.rank_text.specs.flow_rules.declared.place.Place.{Place}
+use Rattle.rank_text.specs.tree_rules.Past.{IsPastAt}
+use Rattle.searches.specs.studio_rules.Solve.{status_of}
+use Rattle.searches.proofs.Cited.{tree_counted}
+use Rattle.searches.specs.studio_rules.Lines.{text_of}
+use Rattle.searches.specs.studio_rules.Printed.{spelled, OneAnswer}
+use Rattle.searches.specs.studio_rules.declared.status.Status.{Status}
+use Rattle.searches.proofs.command_files.Cited.{spelled_text}
 use Rattle.rank_commands.specs.Normal.{normal, marks_for, IsMarkInRange}
-use Rattle.studio_rules.specs.Rank.{AreTextOf, lean_cost, Lists, Ranks, Holds, RankWork}
+use Rattle.searches.specs.studio_rules.Rank.{AreTextOf, lean_cost, Lists, Ranks, Holds, RankWork}
 use Rattle.rank_commands.specs.Found.{ranking_found, CanPrint, RankingSays, FoundSays}
 use Rattle.rank_commands.proofs.Marks.{marks_for_length, same_tree, marks_for_bare, marks_for_fit}
 

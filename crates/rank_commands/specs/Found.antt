@@ -1,14 +1,15 @@
 -- The text of what a search for networks found, for the proofs of the commands.
 use Rattle.std.specs.Prelude.{◌≡◌, ◌<◌, ◌^◌, ℕ, List, length, Option, Some, None}
-use Rattle.problem_rules.specs.Problem.{Problem}
-use Rattle.rank_rules.specs.Text.{Text}
+use Rattle.rank_text.specs.problem_rules.Problem.{Problem}
+use Rattle.rank_text.specs.rank_rules.Text.{Text}
 use Rattle.rank_text.specs.Known.{KnowsText}
-use Rattle.rank_search.specs.declared.outcome.Ranked.{Ranked}
-use Rattle.rank_search.specs.declared.outcome.Ranked.TheVariants.{Whole, Spent, Past, Memory}
-use Rattle.studio_rules.specs.Solve.{status_of}
+use Rattle.searches.specs.rank_search.declared.outcome.Ranked.{Ranked}
+use Rattle.searches.specs.rank_search.declared.outcome.Ranked.TheVariants.{Whole, Spent, Past}
+use Rattle.searches.specs.rank_search.declared.outcome.Ranked.TheVariants.{Memory}
+use Rattle.searches.specs.studio_rules.Solve.{status_of}
 use Rattle.rank_commands.specs.Normal.{normal}
-use Rattle.studio_rules.specs.Rank.{AreTextOf}
-use Rattle.studio_rules.specs.declared.status.Status.{Status}
+use Rattle.searches.specs.studio_rules.Rank.{AreTextOf}
+use Rattle.searches.specs.studio_rules.declared.status.Status.{Status}
 
 -- the ranking that is found
 abbrev pub ranking_found : Ranked → Option Text

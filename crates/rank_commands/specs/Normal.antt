@@ -2,12 +2,12 @@
 -- last open leaf make no difference to the ranked tree. A missing mark stands for an open leaf, and
 -- makes none either.
 use Rattle.std.specs.Prelude.{◌≤◌, ℕ, List, [], ◌∷◌, Some, None}
-use Rattle.integer_laws.specs.Range.{InRange, AllInRange}
-use Rattle.tree_rules.specs.Tree.{TreeNode, End, branch, leaf}
-use Rattle.tree_rules.specs.Leaf.{Leaf, dead, clash, refuted, bounded, charged, untried}
-use Rattle.tree_rules.specs.Accepted.{Tree}
-use Rattle.rank_rules.specs.Marked.{Mark, first_mark, marks_behind}
-use Rattle.rank_rules.specs.Text.{Text}
+use Rattle.rank_text.specs.integer_laws.Range.{InRange, AllInRange}
+use Rattle.rank_text.specs.tree_rules.Tree.{TreeNode, End, branch, leaf}
+use Rattle.rank_text.specs.tree_rules.Leaf.{Leaf, dead, clash, refuted, bounded, charged, untried}
+use Rattle.rank_text.specs.tree_rules.Accepted.{Tree}
+use Rattle.rank_text.specs.rank_rules.Marked.{Mark, first_mark, marks_behind}
+use Rattle.rank_text.specs.rank_rules.Text.{Text}
 
 -- the mark of an open leaf, and after it those of the nodes that follow
 abbrev pub with_mark : List Mark → End Leaf → List Mark → List Mark

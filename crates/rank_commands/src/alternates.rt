@@ -1,21 +1,17 @@
 //! The command `alternatives`.
 ghost use Rattle.std.specs.Prelude.{◌≤◌};
-ghost use Rattle.studio_rules.specs.Alternates.{AlternatesWork};
-ghost use Rattle.studio_rules.specs.Reading.{FileSays};
-ghost use Rattle.studio_rules.specs.Ending.{Ends, Tells};
-ghost use Rattle.studio_rules.specs.Keeps.{Keeps};
+ghost use Rattle.searches.specs.studio_rules.Alternates.{AlternatesWork};
+ghost use Rattle.searches.specs.studio_rules.Reading.{FileSays};
+ghost use Rattle.searches.specs.studio_rules.Ending.{Ends, Tells};
+ghost use Rattle.searches.specs.studio_rules.Keeps.{Keeps};
 
 use crate::ranking::say_found;
-use command_files::problem_of;
-use command_files::say::say_memory;
-use pgraph::{Graph, Site};
-use pns_io::{Outputs, Shelf, Sink};
-use pns_problem::Problem;
-use pns_io::{Effort, Watch};
-use rank_laws::alternatives_are_right;
-use solver::alternatives_watched;
+use rank_text::{
+    Effort, Graph, Outputs, Problem, Shelf, Sink, Site, Watch, alternatives_are_right,
+};
+use searches::say::say_memory;
+use searches::{Status, alternatives_watched, problem_of};
 use std::alloc::Global;
-use studio_rules::Status;
 
 // Prints the best networks of the problem that differ, with the tree that proves it, or how far the
 // search came.

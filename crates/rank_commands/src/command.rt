@@ -1,21 +1,18 @@
 //! The command `rank`.
 ghost use Rattle.std.specs.Prelude.{◌≤◌};
-ghost use Rattle.studio_rules.specs.Rank.{RankWork};
-ghost use Rattle.studio_rules.specs.Reading.{FileSays};
-ghost use Rattle.studio_rules.specs.Ending.{Ends, Tells};
-ghost use Rattle.studio_rules.specs.Keeps.{Keeps};
+ghost use Rattle.searches.specs.studio_rules.Rank.{RankWork};
+ghost use Rattle.searches.specs.studio_rules.Reading.{FileSays};
+ghost use Rattle.searches.specs.studio_rules.Ending.{Ends, Tells};
+ghost use Rattle.searches.specs.studio_rules.Keeps.{Keeps};
 
 use crate::ranking::say_found;
-use command_files::problem_of;
-use command_files::say::say_memory;
-use pgraph::{Graph, Site};
-use pns_io::{Outputs, Shelf, Sink};
-use pns_problem::Problem;
-use pns_io::{Effort, Watch};
-use rank_laws::{listed_are_least, others_are_no_better};
-use solver::rank_watched;
+use rank_text::{
+    Effort, Graph, Outputs, Problem, Shelf, Sink, Site, Watch, listed_are_least,
+    others_are_no_better,
+};
+use searches::say::say_memory;
+use searches::{Status, problem_of, rank_watched};
 use std::alloc::Global;
-use studio_rules::Status;
 
 // Prints the best networks of the problem with the tree that proves it, or how far the search came.
 fn say_ranked<K: Sink, E: Sink, W: Watch>(

@@ -1,27 +1,23 @@
 //! The command `rankcheck`.
 ghost use Rattle.std.specs.Prelude.{◌≡◌, ◌<◌, ◌^◌, IfOk, length, string_bytes};
-ghost use Rattle.studio_rules.specs.Lines.{line};
-ghost use Rattle.studio_rules.specs.RankWords.{network_line, rank_node_line};
-ghost use Rattle.studio_rules.specs.Reading.{TwoFilesSay};
-ghost use Rattle.studio_rules.specs.Rankcheck.{RankcheckWork, OnRank, FilesListBest};
-ghost use Rattle.studio_rules.specs.Rankcheck.{AcceptedAreBest};
-ghost use Rattle.studio_rules.specs.Ending.{Ends, Says, Tells, Only, OrMemory};
-ghost use Rattle.studio_rules.specs.Keeps.{Keeps};
-ghost use Rattle.studio_rules.specs.declared.status.Status.TheVariants.{Done, Refused};
+ghost use Rattle.searches.specs.studio_rules.Lines.{line};
+ghost use Rattle.searches.specs.studio_rules.RankWords.{network_line, rank_node_line};
+ghost use Rattle.searches.specs.studio_rules.Reading.{TwoFilesSay};
+ghost use Rattle.searches.specs.studio_rules.Rankcheck.{RankcheckWork, OnRank, FilesListBest};
+ghost use Rattle.searches.specs.studio_rules.Rankcheck.{AcceptedAreBest};
+ghost use Rattle.searches.specs.studio_rules.Ending.{Ends, Says, Tells, Only, OrMemory};
+ghost use Rattle.searches.specs.studio_rules.Keeps.{Keeps};
+ghost use Rattle.searches.specs.studio_rules.declared.status.Status.TheVariants.{Done, Refused};
 
 use crate::rank_file::rank_of;
-use command_files::{network_line, problem_of, rank_why_word};
-use command_files::say::{say, say_memory};
-use pgraph::{Graph, Site};
-use pns_io::{Outputs, Shelf, Sink};
-use pns_problem::Problem;
-use rank_check::{RankRefusal, check_rank};
-use rank_laws::{alternatives_are_right, listed_are_least, others_are_no_better};
-use rank_rules::RankWhy;
-use rank_text::read_ranks_are_spelled;
-use rank_check::RankText;
+use rank_text::{
+    Graph, Outputs, Problem, RankRefusal, RankText, RankWhy, Shelf, Sink, Site,
+    alternatives_are_right, check_rank, listed_are_least, others_are_no_better,
+    read_ranks_are_spelled,
+};
+use searches::say::{say, say_memory};
+use searches::{Status, network_line, problem_of, rank_why_word};
 use std::alloc::{AllocError, Global};
-use studio_rules::Status;
 
 fn node_line(alloc: Global, node: u32, why: RankWhy) -> Result<String, AllocError>
     ensures { IfOk result (λ text. string_bytes text ≡ line (rank_node_line node why)) }

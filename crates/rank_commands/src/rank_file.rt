@@ -1,21 +1,15 @@
 //! A file that has a ranking: it is read and judged by its grammar.
 ghost use Rattle.std.specs.Prelude.{◌≡◌, ◌<◌, ◌^◌, ℕ, List, IfOk, IfErr, OnOk, length};
 ghost use Rattle.rank_text.specs.Known.{KnowsText};
-ghost use Rattle.studio_rules.specs.Reading.{AreHeld};
-ghost use Rattle.studio_rules.specs.Rankcheck.{GivesRanking, RankFaults};
-ghost use Rattle.studio_rules.specs.Ending.{Ends, Says};
-ghost use Rattle.studio_rules.specs.Keeps.{Keeps};
+ghost use Rattle.searches.specs.studio_rules.Reading.{AreHeld};
+ghost use Rattle.searches.specs.studio_rules.Rankcheck.{GivesRanking, RankFaults};
+ghost use Rattle.searches.specs.studio_rules.Ending.{Ends, Says};
+ghost use Rattle.searches.specs.studio_rules.Keeps.{Keeps};
 
-use command_files::{bytes_of, say_tree_fault};
-use command_files::say::say_memory;
-use studio_words::{Format, Source};
-use pns_io::{Outputs, Shelf, Sink};
-use pns_problem::Problem;
-use rank_text::read_rank;
-use rank_check::RankText;
+use rank_text::{Outputs, Problem, RankText, Shelf, Sink, TreeFault, read_rank};
+use searches::say::say_memory;
+use searches::{Format, Source, Status, bytes_of, say_tree_fault};
 use std::alloc::Global;
-use studio_rules::Status;
-use tree_reading::TreeFault;
 
 /// The most bytes of a file that has a ranking.
 const RANK_LIMIT: u64 = 268_435_456;

@@ -1,27 +1,21 @@
 //! The text of what a search for networks found.
 ghost use Rattle.std.specs.Prelude.{◌≡◌, ◌<◌, ◌^◌, Ok, Some, length, map};
-ghost use Rattle.problem_rules.specs.Each.{Each};
-ghost use Rattle.branch_tree.specs.Sized.{IsKept};
-ghost use Rattle.rank_check.specs.View.{mark_of};
+ghost use Rattle.rank_text.specs.problem_rules.Each.{Each};
+ghost use Rattle.rank_text.specs.branch_tree.Sized.{IsKept};
+ghost use Rattle.rank_text.specs.rank_check.View.{mark_of};
 ghost use Rattle.rank_text.specs.Known.{KnowsText};
-ghost use Rattle.rank_rules.specs.Text.{Text};
-ghost use Rattle.rank_rules.specs.Read.{read_text};
-ghost use Rattle.rank_rules.specs.Spelling.{rank_text};
+ghost use Rattle.rank_text.specs.rank_rules.Text.{Text};
+ghost use Rattle.rank_text.specs.rank_rules.Read.{read_text};
+ghost use Rattle.rank_text.specs.rank_rules.Spelling.{rank_text};
 ghost use Rattle.rank_commands.specs.Normal.{normal, IsMarkInRange};
 ghost use Rattle.rank_commands.specs.Found.{ranking_found, CanPrint, RankingSays};
 ghost use Rattle.rank_commands.specs.Found.{FoundSays};
-ghost use Rattle.studio_rules.specs.Ending.{Ends, Tells};
+ghost use Rattle.searches.specs.studio_rules.Ending.{Ends, Tells};
 
-use branch_tree::Network;
-use command_files::say::{say_memory, say_searched};
-use pns_io::{Outputs, Sink};
-use pns_problem::Problem;
-use rank_search::Ranked;
-use rank_text::{print_rank, spelled_ranks_read};
-use rank_check::{Mark, RankText};
-use searches::{status_of, stopped_notes, tail_is_counted};
+use rank_text::{Mark, Network, Outputs, Problem, RankText, Sink, print_rank, spelled_ranks_read};
+use searches::say::{say_memory, say_searched};
+use searches::{Ranked, Status, status_of, stopped_notes, tail_is_counted};
 use std::alloc::Global;
-use studio_rules::Status;
 
 /// The ranking that was found. It is `None` if and only if there was no memory for the search.
 fn ranking_found(ranked: Ranked) -> Option<RankText>

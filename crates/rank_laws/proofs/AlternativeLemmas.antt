@@ -1,14 +1,14 @@
 -- A list of alternatives whose networks and tree pass is right.
 use Rattle.std.proofs.Common.{◌≡◌, ◌⊎◌, ℕ, ◌==◌, ℤ, Bool, true, false, cond, length, Option}
 use Rattle.std.proofs.Common.{Some, None, refl, sym, subst, inl, inr, eqb-true}
-use Rattle.problem_rules.specs.Problem.{Problem}
-use Rattle.problem_rules.specs.Validity.{IsValid}
-use Rattle.pns_rules.specs.Shape.{shape_of}
-use Rattle.pns_rules.specs.Structure.{IsStructure, IsAllowed}
-use Rattle.flow_rules.specs.Net.{net_of}
-use Rattle.flow_rules.specs.Flows.{IsFlows}
-use Rattle.tree_rules.specs.Claim.{Network, CostOver}
-use Rattle.tree_rules.specs.Costs.{CostsEnough}
+use Rattle.rank_rules.specs.problem_rules.Problem.{Problem}
+use Rattle.rank_rules.specs.problem_rules.Validity.{IsValid}
+use Rattle.rank_rules.specs.pns_rules.Shape.{shape_of}
+use Rattle.rank_rules.specs.pns_rules.Structure.{IsStructure, IsAllowed}
+use Rattle.rank_rules.specs.flow_rules.Net.{net_of}
+use Rattle.rank_rules.specs.flow_rules.Flows.{IsFlows}
+use Rattle.rank_rules.specs.tree_rules.Claim.{Network, CostOver}
+use Rattle.rank_rules.specs.tree_rules.Costs.{CostsEnough}
 use Rattle.rank_rules.specs.declared.naming.Naming.{Naming}
 use Rattle.rank_rules.specs.declared.naming.Naming.TheVariants.{Only, Within}
 use Rattle.rank_rules.specs.Networks.{cost_of, numbered, IsListed, last_cost, to_undercut, AreAlike}

@@ -1,15 +1,15 @@
 -- What passes does not fail, and what fails does so at one place for one cause.
 use Rattle.std.proofs.Common.{◌≡◌, ℕ, zero, suc, Bool, false, List, [], ◌∷◌, Option, refl, sym, ap}
 use Rattle.std.proofs.Common.{◌∙◌, subst, inl, inr}
-use Rattle.problem_rules.specs.Problem.{Problem}
-use Rattle.pns_rules.specs.Shape.{shape_of}
-use Rattle.pns_rules.specs.Nodes.{Node}
-use Rattle.tree_rules.specs.declared.why.Why.{Why}
-use Rattle.tree_rules.specs.Tree.{End, branch, leaf}
-use Rattle.tree_rules.specs.Claim.{Network, network, CostOver, IsFeasible}
-use Rattle.tree_rules.specs.Accepted.{first_node}
-use Rattle.tree_laws.proofs.FaultLemmas.{holds, one_of, none, neither, claim_passes, claim_one}
-use Rattle.tree_laws.proofs.FaultLemmas.{leaf_passes, leaf_one, tree_passes, tree_one}
+use Rattle.rank_rules.specs.problem_rules.Problem.{Problem}
+use Rattle.rank_rules.specs.pns_rules.Shape.{shape_of}
+use Rattle.rank_rules.specs.pns_rules.Nodes.{Node}
+use Rattle.rank_rules.specs.tree_rules.declared.why.Why.{Why}
+use Rattle.rank_rules.specs.tree_rules.Tree.{End, branch, leaf}
+use Rattle.rank_rules.specs.tree_rules.Claim.{Network, network, CostOver, IsFeasible}
+use Rattle.rank_rules.specs.tree_rules.Accepted.{first_node}
+use Rattle.tree_laws.proofs.Cited.{holds, one_of, none, neither, claim_passes, claim_one}
+use Rattle.tree_laws.proofs.Cited.{leaf_passes, leaf_one, tree_passes, tree_one}
 use Rattle.rank_rules.specs.declared.why.RankWhy.{RankWhy}
 use Rattle.rank_rules.specs.declared.why.RankWhy.TheVariants.{Plain}
 use Rattle.rank_rules.specs.Networks.{to_undercut, ArePassing, NetworkFails, IsInOrder, IsFirstOff}

@@ -3,12 +3,11 @@ use Rattle.std.proofs.Common.{◌≡◌, ◌⊎◌, ℕ, zero, suc, ℤ, pos, �
 use Rattle.std.proofs.Common.{List, []}
 use Rattle.std.proofs.Common.{◌∷◌, Option, Some, None, refl, sym, ap, ◌∙◌, subst, inl, inr, arith}
 use Rattle.std.proofs.lemmas.Int.{ints, by_lt_z}
-use Rattle.integer_laws.proofs.Ring.{ring_z}
-use Rattle.integer_laws.proofs.Order.{mul-le_left, cancel_le}
-use Rattle.number_sets.specs.Sets.{has}
-use Rattle.problem_rules.specs.Problem.{Problem}
-use Rattle.tree_rules.specs.Claim.{Network, CostOver, IsAtLeast, IsFeasible}
-use Rattle.tree_laws.proofs.LeafLemmas.{HasScale}
+use Rattle.rank_rules.proofs.integer_laws.Cited.{ring_z, mul-le_left, cancel_le}
+use Rattle.rank_rules.specs.number_sets.Sets.{has}
+use Rattle.rank_rules.specs.problem_rules.Problem.{Problem}
+use Rattle.rank_rules.specs.tree_rules.Claim.{Network, CostOver, IsAtLeast, IsFeasible}
+use Rattle.tree_laws.proofs.Cited.{HasScale}
 use Rattle.rank_rules.specs.Networks.{cost_of, network_at, numbered, IsListed, last_cost}
 use Rattle.rank_rules.specs.Networks.{IsNoCheaper, AreAlike, IsNewTo, ArePassing}
 

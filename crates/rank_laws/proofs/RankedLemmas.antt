@@ -4,21 +4,20 @@ use Rattle.std.proofs.Common.{cond, List}
 use Rattle.std.proofs.Common.{[], ◌∷◌, length, Option, Some, None, refl, sym, ◌∙◌, subst, inl, inr}
 use Rattle.std.proofs.Common.{arith}
 use Rattle.std.proofs.lemmas.Int.{ints, by_lt_z}
-use Rattle.number_sets.specs.Sets.{has, IsWithin}
-use Rattle.problem_rules.specs.Problem.{Problem}
-use Rattle.problem_rules.specs.Validity.{IsValid}
-use Rattle.pns_rules.specs.Shape.{Shape, shape_of}
-use Rattle.pns_rules.specs.Structure.{IsStructure, IsAllowed, InFamily}
-use Rattle.pns_rules.specs.Nodes.{Node, is_free}
-use Rattle.pns_rules.proofs.ProperLemmas.{proper_if_valid}
-use Rattle.flow_rules.specs.Net.{net_of}
-use Rattle.flow_rules.specs.Flows.{cost}
-use Rattle.tree_rules.specs.Claim.{Network, CostOver, IsFeasible}
-use Rattle.tree_rules.specs.Leaf as leaves
-use Rattle.tree_rules.specs.Accepted.{first_node}
-use Rattle.tree_rules.specs.Costs.{CostsEnough}
-use Rattle.tree_laws.proofs.CoverLemmas.{IsUnder, covers}
-use Rattle.tree_laws.proofs.LeafLemmas.{HasScale, leaf_holds}
+use Rattle.rank_rules.specs.number_sets.Sets.{has, IsWithin}
+use Rattle.rank_rules.specs.problem_rules.Problem.{Problem}
+use Rattle.rank_rules.specs.problem_rules.Validity.{IsValid}
+use Rattle.rank_rules.specs.pns_rules.Shape.{Shape, shape_of}
+use Rattle.rank_rules.specs.pns_rules.Structure.{IsStructure, IsAllowed, InFamily}
+use Rattle.rank_rules.specs.pns_rules.Nodes.{Node, is_free}
+use Rattle.rank_rules.proofs.pns_rules.Cited.{proper_if_valid}
+use Rattle.rank_rules.specs.flow_rules.Net.{net_of}
+use Rattle.rank_rules.specs.flow_rules.Flows.{cost}
+use Rattle.rank_rules.specs.tree_rules.Claim.{Network, CostOver, IsFeasible}
+use Rattle.rank_rules.specs.tree_rules.Leaf as leaves
+use Rattle.rank_rules.specs.tree_rules.Accepted.{first_node}
+use Rattle.rank_rules.specs.tree_rules.Costs.{CostsEnough}
+use Rattle.tree_laws.proofs.Cited.{IsUnder, covers, HasScale, leaf_holds}
 use Rattle.rank_rules.specs.Networks.{cost_of, numbered, IsListed, last_cost, to_undercut}
 use Rattle.rank_rules.specs.Networks.{AreAlike}
 use Rattle.rank_rules.specs.declared.naming.Naming.{Naming}

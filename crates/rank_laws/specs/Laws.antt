@@ -1,16 +1,16 @@
 -- Laws of ranked trees, each the contract of a public function of this crate.
 use Rattle.std.specs.Prelude.{◌≡◌, ℕ, ◌<◌, ◌≤◌, ℤ, Bool, true, false, length, List, [], Option}
 use Rattle.std.specs.Prelude.{Some}
-use Rattle.number_sets.specs.Sets.{has}
-use Rattle.problem_rules.specs.Problem.{Problem}
-use Rattle.problem_rules.specs.Validity.{IsValid}
-use Rattle.pns_rules.specs.Shape.{shape_of}
-use Rattle.pns_rules.specs.Structure.{IsStructure, IsAllowed}
-use Rattle.flow_rules.specs.Net.{net_of}
-use Rattle.flow_rules.specs.Flows.{IsFlows}
-use Rattle.tree_rules.specs.Claim.{Network, CostOver}
-use Rattle.tree_rules.specs.Fault.{AreLeafRules}
-use Rattle.tree_rules.specs.Costs.{CostsEnough}
+use Rattle.rank_rules.specs.number_sets.Sets.{has}
+use Rattle.rank_rules.specs.problem_rules.Problem.{Problem}
+use Rattle.rank_rules.specs.problem_rules.Validity.{IsValid}
+use Rattle.rank_rules.specs.pns_rules.Shape.{shape_of}
+use Rattle.rank_rules.specs.pns_rules.Structure.{IsStructure, IsAllowed}
+use Rattle.rank_rules.specs.flow_rules.Net.{net_of}
+use Rattle.rank_rules.specs.flow_rules.Flows.{IsFlows}
+use Rattle.rank_rules.specs.tree_rules.Claim.{Network, CostOver}
+use Rattle.rank_rules.specs.tree_rules.Fault.{AreLeafRules}
+use Rattle.rank_rules.specs.tree_rules.Costs.{CostsEnough}
 use Rattle.rank_rules.specs.declared.why.RankWhy.{RankWhy}
 use Rattle.rank_rules.specs.Networks.{cost_of, numbered, IsListed, last_cost, ArePassing}
 use Rattle.rank_rules.specs.Leaf.{LeafPasses, LeafFails}

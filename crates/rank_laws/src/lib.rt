@@ -14,4 +14,6 @@ mod faults;
 mod ranked;
 
 pub use faults::{network_has_one_fault, ranking_has_one_fault};
+pub use rank_rules::{Naming, RankWhy, Refusal, Why};
 pub use ranked::{alternatives_are_right, listed_are_least, others_are_no_better};
+pub use tree_laws::accepted_is_optimal;

@@ -1,6 +1,7 @@
 -- The names of a plant, for small texts about it.
 use Rattle.std.proofs.Common.{◌++◌, ℕ, pos, List, [], ◌∷◌, map, flat_map, codes}
-use Rattle.problem_rules.specs.Problem.{Problem, Material, OperatingUnit, intermediate}
+use Rattle.tree_text_rules.specs.problem_rules.Problem.{Problem, Material, OperatingUnit}
+use Rattle.tree_text_rules.specs.problem_rules.Problem.{intermediate}
 
 abbrev material : List ℕ → Material
 material name =

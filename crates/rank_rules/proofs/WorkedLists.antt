@@ -7,8 +7,8 @@ use Rattle.std.proofs.lemmas.Int.{ints}
 use Rattle.std.proofs.lemmas.Bool.{both_ways, or_cases, or_left, or_right}
 use Rattle.std.specs.Int.Signed.{lt_z, lt_z_no, lt_z_yes}
 use Rattle.std.specs.Prelude.{T}
-use Rattle.number_sets.specs.Sets.{has, IsWithin}
-use Rattle.tree_rules.specs.Claim.{Network}
+use Rattle.tree_text_rules.specs.number_sets.Sets.{has, IsWithin}
+use Rattle.tree_text_rules.specs.tree_rules.Claim.{Network}
 use Rattle.rank_rules.specs.declared.naming.Naming.TheVariants.{Only, Within}
 use Rattle.rank_rules.specs.declared.why.RankWhy.TheVariants.{Order, Contains, Named, Over}
 use Rattle.rank_rules.specs.Networks.{AreAlike, like_why}

@@ -3,12 +3,12 @@
 use Rattle.std.proofs.Common.{◌≡◌, ◌++◌, ℕ, pos, true, false, List, [], ◌∷◌, codes, refl, Ok, Err}
 use Rattle.std.proofs.Common.{Some, None}
 use Rattle.std.specs.Fmt.{digits}
-use Rattle.pns_rules.specs.Nodes.{starve, loose, sole}
-use Rattle.tree_rules.specs.Ways.{at_material}
-use Rattle.tree_rules.specs.Tree.{branch, leaf, TreeNode}
-use Rattle.tree_rules.specs.Leaf as leaves
-use Rattle.tree_rules.specs.Claim.{Network}
-use Rattle.tree_rules.specs.Tail.{whole}
+use Rattle.tree_text_rules.specs.pns_rules.Nodes.{starve, loose, sole}
+use Rattle.tree_text_rules.specs.tree_rules.Ways.{at_material}
+use Rattle.tree_text_rules.specs.tree_rules.Tree.{branch, leaf, TreeNode}
+use Rattle.tree_text_rules.specs.tree_rules.Leaf as leaves
+use Rattle.tree_text_rules.specs.tree_rules.Claim.{Network}
+use Rattle.tree_text_rules.specs.tree_rules.Tail.{whole}
 use Rattle.tree_text_rules.specs.Line.{Line, word_named}
 use Rattle.tree_text_rules.specs.Read.{nodes_taken}
 use Rattle.tree_text_rules.specs.declared.TreeKind.TheVariants.{BadLine}

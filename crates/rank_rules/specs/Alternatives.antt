@@ -3,14 +3,14 @@
 -- Nothing cheaper is left out but the same plant with more units, at no lower cost. If two
 -- structures cost the same and one contains the other, the smaller stands for both.
 use Rattle.std.specs.Prelude.{◌≡◌, ◌⊎◌, ℕ, suc, ◌≤◌, ℤ, Bool, List, length, Some}
-use Rattle.number_sets.specs.Sets.{has, IsWithin}
-use Rattle.problem_rules.specs.Problem.{Problem}
-use Rattle.pns_rules.specs.Shape.{shape_of}
-use Rattle.pns_rules.specs.Structure.{IsStructure, IsAllowed}
-use Rattle.flow_rules.specs.Net.{net_of}
-use Rattle.flow_rules.specs.Flows.{IsFlows}
-use Rattle.tree_rules.specs.Claim.{Network, IsFeasible}
-use Rattle.tree_rules.specs.Costs.{CostsEnough}
+use Rattle.tree_text_rules.specs.number_sets.Sets.{has, IsWithin}
+use Rattle.tree_text_rules.specs.problem_rules.Problem.{Problem}
+use Rattle.tree_text_rules.specs.pns_rules.Shape.{shape_of}
+use Rattle.tree_text_rules.specs.pns_rules.Structure.{IsStructure, IsAllowed}
+use Rattle.tree_text_rules.specs.flow_rules.Net.{net_of}
+use Rattle.tree_text_rules.specs.flow_rules.Flows.{IsFlows}
+use Rattle.tree_text_rules.specs.tree_rules.Claim.{Network, IsFeasible}
+use Rattle.tree_text_rules.specs.tree_rules.Costs.{CostsEnough}
 use Rattle.rank_rules.specs.Networks.{cost_of, numbered, IsListed, last_cost, IsNoCheaper, Repeats}
 
 -- a clash-free solution structure with its sizes as flows, and no flows for its units cost less

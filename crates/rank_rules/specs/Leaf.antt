@@ -4,17 +4,18 @@
 -- of the node contains it.
 use Rattle.std.specs.Prelude.{◌≡◌, ◌⊎◌, ℕ, ℤ, pos, ◌≤ℤ◌, ◌<◌, Bool, true, false, List, length}
 use Rattle.std.specs.Prelude.{Option, Some, None}
-use Rattle.number_sets.specs.Sets.{has, IsWithin}
-use Rattle.problem_rules.specs.Problem.{Problem}
-use Rattle.pns_rules.specs.Shape.{shape_of}
-use Rattle.pns_rules.specs.Nodes.{Node, is_free}
-use Rattle.tree_rules.specs.declared.why.Why.{Why}
-use Rattle.tree_rules.specs.declared.why.Why.TheVariants.{Bound, Sum}
-use Rattle.tree_rules.specs.Fault.{Fails}
-use Rattle.tree_rules.specs.Tree.{End, branch, leaf}
-use Rattle.tree_rules.specs.Claim.{Network, CostOver}
-use Rattle.tree_rules.specs.Leaf as leaves
-use Rattle.tree_rules.specs.Leaf.{Scaled, IsOneEach, IsFormed, Reaches, IsBounded, untried}
+use Rattle.tree_text_rules.specs.number_sets.Sets.{has, IsWithin}
+use Rattle.tree_text_rules.specs.problem_rules.Problem.{Problem}
+use Rattle.tree_text_rules.specs.pns_rules.Shape.{shape_of}
+use Rattle.tree_text_rules.specs.pns_rules.Nodes.{Node, is_free}
+use Rattle.tree_text_rules.specs.tree_rules.declared.why.Why.{Why}
+use Rattle.tree_text_rules.specs.tree_rules.declared.why.Why.TheVariants.{Bound, Sum}
+use Rattle.tree_text_rules.specs.tree_rules.Fault.{Fails}
+use Rattle.tree_text_rules.specs.tree_rules.Tree.{End, branch, leaf}
+use Rattle.tree_text_rules.specs.tree_rules.Claim.{Network, CostOver}
+use Rattle.tree_text_rules.specs.tree_rules.Leaf as leaves
+use Rattle.tree_text_rules.specs.tree_rules.Leaf.{Scaled, IsOneEach, IsFormed, Reaches, IsBounded}
+use Rattle.tree_text_rules.specs.tree_rules.Leaf.{untried}
 use Rattle.rank_rules.specs.declared.naming.Naming.{Naming}
 use Rattle.rank_rules.specs.declared.naming.Naming.TheVariants.{Only, Within}
 use Rattle.rank_rules.specs.declared.why.RankWhy.{RankWhy}

@@ -3,10 +3,11 @@
 -- costs no more.
 use Rattle.std.specs.Prelude.{◌≡◌, ◌⊎◌, ℕ, zero, suc, ◌==◌, Bool, true, false, cond, List, []}
 use Rattle.std.specs.Prelude.{◌∷◌, length, Option, Some, None}
-use Rattle.number_sets.specs.Sets.{has, IsWithin}
-use Rattle.problem_rules.specs.Problem.{Problem}
-use Rattle.tree_rules.specs.declared.why.Why.{Why}
-use Rattle.tree_rules.specs.Claim.{Network, network, CostOver, IsAtLeast, IsFeasible, ClaimFails}
+use Rattle.tree_text_rules.specs.number_sets.Sets.{has, IsWithin}
+use Rattle.tree_text_rules.specs.problem_rules.Problem.{Problem}
+use Rattle.tree_text_rules.specs.tree_rules.declared.why.Why.{Why}
+use Rattle.tree_text_rules.specs.tree_rules.Claim.{Network, network, CostOver, IsAtLeast}
+use Rattle.tree_text_rules.specs.tree_rules.Claim.{IsFeasible, ClaimFails}
 use Rattle.rank_rules.specs.declared.why.RankWhy.{RankWhy}
 use Rattle.rank_rules.specs.declared.why.RankWhy.TheVariants.{Plain, Order, Contains}
 

@@ -2,13 +2,13 @@
 -- of nodes is one whole tree, and that there are at most as many networks as were asked for. So
 -- nothing here checks it.
 use Rattle.std.specs.Prelude.{ℕ, zero, suc, Bool, true, false, List, [], ◌∷◌}
-use Rattle.problem_rules.specs.Problem.{Problem}
-use Rattle.pns_rules.specs.Shape.{shape_of}
-use Rattle.tree_rules.specs.declared.why.Why.{Why}
-use Rattle.tree_rules.specs.Tree.{TreeNode, Pass}
-use Rattle.tree_rules.specs.Fault.{IsFirstFault}
-use Rattle.tree_rules.specs.Claim.{Network}
-use Rattle.tree_rules.specs.Accepted.{first_node}
+use Rattle.tree_text_rules.specs.problem_rules.Problem.{Problem}
+use Rattle.tree_text_rules.specs.pns_rules.Shape.{shape_of}
+use Rattle.tree_text_rules.specs.tree_rules.declared.why.Why.{Why}
+use Rattle.tree_text_rules.specs.tree_rules.Tree.{TreeNode, Pass}
+use Rattle.tree_text_rules.specs.tree_rules.Fault.{IsFirstFault}
+use Rattle.tree_text_rules.specs.tree_rules.Claim.{Network}
+use Rattle.tree_text_rules.specs.tree_rules.Accepted.{first_node}
 use Rattle.rank_rules.specs.declared.why.RankWhy.{RankWhy}
 use Rattle.rank_rules.specs.Networks.{to_undercut, ArePassing, IsFirstOff}
 use Rattle.rank_rules.specs.Leaf.{Leaf, LeafPasses, LeafFails, IsTold}

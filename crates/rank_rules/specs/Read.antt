@@ -5,10 +5,10 @@
 use Rattle.std.specs.Prelude.{ℕ, zero, suc, nat_le, nat_lt, Bool, true, false, ◌&&◌, List, [], ◌∷◌}
 use Rattle.std.specs.Prelude.{map, Result, Ok, Err, if◌then◌else◌}
 use Rattle.std.specs.Str.{bytes_eq}
-use Rattle.problem_rules.specs.Problem.{Problem}
-use Rattle.tree_rules.specs.Claim.{Network}
-use Rattle.tree_rules.specs.Accepted.{Tree}
-use Rattle.tree_rules.specs.Tail.{Tail}
+use Rattle.tree_text_rules.specs.problem_rules.Problem.{Problem}
+use Rattle.tree_text_rules.specs.tree_rules.Claim.{Network}
+use Rattle.tree_text_rules.specs.tree_rules.Accepted.{Tree}
+use Rattle.tree_text_rules.specs.tree_rules.Tail.{Tail}
 use Rattle.tree_text_rules.specs.Line.{Token, Line, lines_of, tokens_of}
 use Rattle.tree_text_rules.specs.LineRead.{formed, one}
 use Rattle.tree_text_rules.specs.Token.{judged, count_of}

@@ -1,14 +1,14 @@
 -- What a text says of a ranking: the counts, whether it is a list of alternatives, the networks,
 -- the tree with its marks, and how the search ended.
 use Rattle.std.specs.Prelude.{◌≡◌, ℕ, ◌≤◌, Bool, true, List, [], ◌∷◌, length, Some, None}
-use Rattle.tree_rules.specs.Tree as trees
-use Rattle.tree_rules.specs.Leaf as leaves
-use Rattle.tree_rules.specs.Claim.{Network}
-use Rattle.tree_rules.specs.Accepted.{Tree}
+use Rattle.tree_text_rules.specs.tree_rules.Tree as trees
+use Rattle.tree_text_rules.specs.tree_rules.Leaf as leaves
+use Rattle.tree_text_rules.specs.tree_rules.Claim.{Network}
+use Rattle.tree_text_rules.specs.tree_rules.Accepted.{Tree}
 use Rattle.rank_rules.specs.declared.naming.Naming.{Naming}
 use Rattle.rank_rules.specs.declared.naming.Naming.TheVariants.{Only, Within}
 use Rattle.rank_rules.specs.Ranked.{Ranking}
-use Rattle.tree_rules.specs.Tail.{Tail}
+use Rattle.tree_text_rules.specs.tree_rules.Tail.{Tail}
 use Rattle.rank_rules.specs.Marked.{Mark, marked, first_mark, marks_behind}
 
 pub record Text : Type 0 where

@@ -22,4 +22,7 @@ mod naming;
 mod why;
 
 pub use naming::Naming;
+pub use tree_text_rules::{
+    HeadRefusal, LineWhy, MergeFault, Place, Refusal, TreeKind, Why, sums_are_last, valid_is_proper,
+};
 pub use why::RankWhy;

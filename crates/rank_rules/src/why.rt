@@ -1,4 +1,4 @@
-use tree_rules::Why;
+use tree_text_rules::Why;
 
 /// Why a network or a node of a ranked tree is refused.
 #[derive(Clone, Copy, Debug, PartialEq, Eq)]

@@ -9,18 +9,18 @@ use Rattle.std.specs.List.{slice_get}
 use Rattle.std.proofs.lemmas.Bool.{cases_eq}
 use Rattle.std.proofs.lemmas.List.{get_or_append_left, get_or-append-add, get_or-set_same}
 use Rattle.std.proofs.lemmas.List.{get_or-set_other, length-set}
-use Rattle.problem_rules.specs.Each.{Each}
-use Rattle.problem_rules.specs.Problem.{Problem}
-use Rattle.tree_rules.specs.Tree.{End, leaf}
-use Rattle.tree_rules.specs.Claim.{Network, CostOver}
-use Rattle.tree_rules.specs.Leaf.{Leaf, bounded, untried, IsBounded}
-use Rattle.rank_rules.specs.Networks.{cost_of, last_cost}
-use Rattle.search_tree.specs.Growth.{EndsOpen}
-use Rattle.search_tree.specs.Cells.{Cell, no_cell, place_of, cell_at}
-use Rattle.tree_rules.specs.Costs.{HasFallen}
-use Rattle.search_tree.proofs.GrowLemmas.{leaf_fallen}
-use Rattle.node_evaluation.specs.Looks.{is_bounded, is_charged, IsFoundAt}
-use Rattle.node_evaluation.specs.Children.{IsSolvedAs, IsSolvedBy, AreSolvedBy}
+use Rattle.rank_check.specs.problem_rules.Each.{Each}
+use Rattle.rank_check.specs.problem_rules.Problem.{Problem}
+use Rattle.rank_check.specs.tree_rules.Tree.{End, leaf}
+use Rattle.rank_check.specs.tree_rules.Claim.{Network, CostOver}
+use Rattle.rank_check.specs.tree_rules.Leaf.{Leaf, bounded, untried, IsBounded}
+use Rattle.rank_check.specs.rank_rules.Networks.{cost_of, last_cost}
+use Rattle.abb_search.specs.search_tree.Growth.{EndsOpen}
+use Rattle.abb_search.specs.search_tree.Cells.{Cell, no_cell, place_of, cell_at}
+use Rattle.rank_check.specs.tree_rules.Costs.{HasFallen}
+use Rattle.abb_search.proofs.search_tree.Cited.{leaf_fallen}
+use Rattle.abb_search.specs.node_evaluation.Looks.{is_bounded, is_charged, IsFoundAt}
+use Rattle.abb_search.specs.node_evaluation.Children.{IsSolvedAs, IsSolvedBy, AreSolvedBy}
 use Rattle.rank_search.specs.Found.{FoundAt, networks_of, IsOfLeaf, AreApart, AreRising}
 use Rattle.rank_search.specs.Found.{IsFoundThere, IsListedOrBeaten, AreBest}
 use Rattle.rank_search.specs.Listed.{Listed, AreScaled, IsListed, IsAdded, IsSomeAdded, AreAdded}

@@ -3,21 +3,21 @@ use Rattle.std.specs.Prelude.{is_some}
 use Rattle.std.proofs.Common.{◌≡◌, ℕ, pos, ℤ, ◌≤ℤ◌, true, List, Option, Some, None, refl, sym}
 use Rattle.std.proofs.Common.{subst, arith}
 use Rattle.std.proofs.lemmas.Int.{ints}
-use Rattle.number_sets.specs.Sets.{has, IsWithin}
-use Rattle.problem_rules.specs.Problem.{Problem}
-use Rattle.pns_rules.specs.Nodes.{Node}
-use Rattle.pgraph.specs.View.{node_of}
-use Rattle.unit_sets.specs.declared.node.Node as starts
-use Rattle.tree_rules.specs.Leaf.{Scaled, bounded, IsBounded}
-use Rattle.tree_rules.specs.Claim.{Network, CostOver, claimed_cost}
-use Rattle.tree_rules.specs.Costs.{HasFallen, IsNoMore}
-use Rattle.search_tree.specs.Values.{IsPositiveCost}
-use Rattle.search_tree.proofs.GrowLemmas.{leaf_fallen}
-use Rattle.exact_numbers.specs.declared.number.Mixed.{Mixed}
-use Rattle.search_tree.specs.Cells.{place_of, cell_at}
-use Rattle.node_evaluation.specs.Evaluated.{cost_over, cost_in}
-use Rattle.node_evaluation.specs.Looks.{cost_of}
-use Rattle.node_evaluation.specs.Children.{claim_with}
+use Rattle.rank_check.specs.number_sets.Sets.{has, IsWithin}
+use Rattle.rank_check.specs.problem_rules.Problem.{Problem}
+use Rattle.rank_check.specs.pns_rules.Nodes.{Node}
+use Rattle.rank_check.specs.pgraph.View.{node_of}
+use Rattle.rank_check.specs.unit_sets.declared.node.Node as starts
+use Rattle.rank_check.specs.tree_rules.Leaf.{Scaled, bounded, IsBounded}
+use Rattle.rank_check.specs.tree_rules.Claim.{Network, CostOver, claimed_cost}
+use Rattle.rank_check.specs.tree_rules.Costs.{HasFallen, IsNoMore}
+use Rattle.abb_search.specs.search_tree.Values.{IsPositiveCost}
+use Rattle.abb_search.proofs.search_tree.Cited.{leaf_fallen}
+use Rattle.rank_check.specs.exact_numbers.declared.number.Mixed.{Mixed}
+use Rattle.abb_search.specs.search_tree.Cells.{place_of, cell_at}
+use Rattle.abb_search.specs.node_evaluation.Evaluated.{cost_over, cost_in}
+use Rattle.abb_search.specs.node_evaluation.Looks.{cost_of}
+use Rattle.abb_search.specs.node_evaluation.Children.{claim_with}
 use Rattle.abb_search.specs.declared.growing.Growing.{Growing}
 use Rattle.abb_search.specs.Growing.{IsTreeKeptFor}
 use Rattle.abb_search.specs.Closing.{ProvesLeaf}

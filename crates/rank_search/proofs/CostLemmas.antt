@@ -6,16 +6,15 @@ use Rattle.std.specs.List.{slice_get}
 use Rattle.std.proofs.lemmas.Bool.{cases_lt, eq-eqb}
 use Rattle.std.proofs.lemmas.Int.{ints}
 use Rattle.std.proofs.lemmas.List.{length-map}
-use Rattle.problem_rules.specs.Problem.{Problem}
-use Rattle.pns_rules.specs.Nodes.{Node}
-use Rattle.tree_rules.specs.Claim.{Network, CostOver, IsAtMost}
-use Rattle.tree_rules.specs.Lean.{MayUndercut, HasCheaper}
-use Rattle.rank_rules.specs.Networks.{cost_of, last_cost}
-use Rattle.search_tree.specs.Values.{IsPositive, IsPositiveCost}
-use Rattle.tree_rules.specs.Costs.{IsNoMore, HasFallen}
-use Rattle.search_tree.proofs.FractionLemmas.{fraction_trans}
-use Rattle.search_tree.proofs.OrderLemmas.{reached_may_undercut}
-use Rattle.node_evaluation.specs.Evaluated.{cost_in}
+use Rattle.rank_check.specs.problem_rules.Problem.{Problem}
+use Rattle.rank_check.specs.pns_rules.Nodes.{Node}
+use Rattle.rank_check.specs.tree_rules.Claim.{Network, CostOver, IsAtMost}
+use Rattle.rank_check.specs.tree_rules.Lean.{MayUndercut, HasCheaper}
+use Rattle.rank_check.specs.rank_rules.Networks.{cost_of, last_cost}
+use Rattle.abb_search.specs.search_tree.Values.{IsPositive, IsPositiveCost}
+use Rattle.rank_check.specs.tree_rules.Costs.{IsNoMore, HasFallen}
+use Rattle.abb_search.proofs.search_tree.Cited.{fraction_trans, reached_may_undercut}
+use Rattle.abb_search.specs.node_evaluation.Evaluated.{cost_in}
 use Rattle.rank_search.specs.Found.{FoundAt, networks_of, undercut_by, AreRising}
 use Rattle.rank_search.specs.Listed.{Listed, AreScaled, IsListed, AreDearer, IsAdded, AreAdded}
 use Rattle.rank_search.proofs.PlaceLemmas.{take_all, append_none, length_taken, rising_between}

@@ -7,16 +7,17 @@ use Rattle.std.specs.List.{slice_get}
 use Rattle.std.proofs.lemmas.Bool.{cases_eq, cases_lt}
 use Rattle.std.proofs.lemmas.List.{get_or_past, get_or_append_left, length-map}
 use Rattle.std.proofs.lemmas.Option.{slice_get_within}
-use Rattle.number_sets.proofs.SetLemmas.{below_from}
-use Rattle.problem_rules.specs.Each.{Each}
-use Rattle.problem_rules.specs.Problem.{Problem}
-use Rattle.tree_rules.specs.Claim.{Network, IsFeasible, IsSized}
-use Rattle.tree_rules.specs.Costs.{HasFallen}
-use Rattle.exact_numbers.specs.declared.number.Mixed.{Mixed}
-use Rattle.rank_rules.specs.Networks.{cost_of, last_cost, IsNoCheaper, RisesFrom, IsNewTo}
-use Rattle.rank_rules.specs.Networks.{ArePassing}
+use Rattle.rank_check.proofs.number_sets.Cited.{below_from}
+use Rattle.rank_check.specs.problem_rules.Each.{Each}
+use Rattle.rank_check.specs.problem_rules.Problem.{Problem}
+use Rattle.rank_check.specs.tree_rules.Claim.{Network, IsFeasible, IsSized}
+use Rattle.rank_check.specs.tree_rules.Costs.{HasFallen}
+use Rattle.rank_check.specs.exact_numbers.declared.number.Mixed.{Mixed}
+use Rattle.rank_check.specs.rank_rules.Networks.{cost_of, last_cost, IsNoCheaper, RisesFrom}
+use Rattle.rank_check.specs.rank_rules.Networks.{IsNewTo}
+use Rattle.rank_check.specs.rank_rules.Networks.{ArePassing}
 use Rattle.rank_check.specs.Known.{KnowsNetwork}
-use Rattle.search_tree.specs.Cells.{Cell, cell_at}
+use Rattle.abb_search.specs.search_tree.Cells.{Cell, cell_at}
 use Rattle.rank_search.specs.Found.{FoundAt, networks_of, AreRising, undercut_by}
 use Rattle.rank_search.specs.Listed.{AreScaled}
 use Rattle.rank_search.specs.Naming.{Names, name_at}

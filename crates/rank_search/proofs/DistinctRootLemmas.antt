@@ -1,14 +1,14 @@
 -- A search that has looked at the root alone.
 use Rattle.std.proofs.Common.{◌≡◌, ℕ, ◌≤◌, [], ◌∷◌, None, refl, ap, ◌∙◌}
-use Rattle.problem_rules.specs.Problem.{Problem}
-use Rattle.pgraph.specs.View.{node_of}
-use Rattle.unit_sets.specs.declared.node.Node as starts
-use Rattle.tree_rules.specs.Accepted.{first_node}
-use Rattle.node_evaluation.specs.Evaluated.{PastPlaces}
-use Rattle.node_evaluation.specs.Children.{AreSolvedBy}
+use Rattle.rank_check.specs.problem_rules.Problem.{Problem}
+use Rattle.rank_check.specs.pgraph.View.{node_of}
+use Rattle.rank_check.specs.unit_sets.declared.node.Node as starts
+use Rattle.rank_check.specs.tree_rules.Accepted.{first_node}
+use Rattle.abb_search.specs.node_evaluation.Evaluated.{PastPlaces}
+use Rattle.abb_search.specs.node_evaluation.Children.{AreSolvedBy}
 use Rattle.abb_search.specs.declared.growing.Growing.{Growing}
 use Rattle.abb_search.specs.Growing.{IsLookedRoot}
-use Rattle.abb_search.proofs.RootLemmas.{root_after}
+use Rattle.abb_search.proofs.Cited.{root_after}
 use Rattle.rank_search.proofs.RootLemmas.{goes_for}
 use Rattle.rank_search.specs.declared.listing.Listing.{Listing}
 use Rattle.rank_search.specs.Plants.{AreAdded}

@@ -6,34 +6,33 @@ use Rattle.std.proofs.Common.{length, take, Option, Some, None, Result, Ok, Err,
 use Rattle.std.proofs.Common.{sym, ap}
 use Rattle.std.proofs.Common.{◌∙◌, subst, arith, inl, inr, true≢false}
 use Rattle.std.proofs.lemmas.List.{length-map}
-use Rattle.number_sets.specs.Sets.{has, IsWithin}
-use Rattle.problem_rules.specs.Problem.{Problem}
-use Rattle.problem_rules.specs.Validity.{IsValid}
-use Rattle.pns_rules.specs.Shape.{shape_of}
-use Rattle.pns_rules.specs.Nodes.{Node}
-use Rattle.pgraph.specs.View.{node_of}
-use Rattle.tree_rules.specs.Tree.{End, leaf}
-use Rattle.tree_rules.specs.Leaf as leaves
-use Rattle.tree_rules.specs.Leaf.{Leaf, dead, clash, refuted, bounded, charged, untried}
-use Rattle.tree_rules.specs.Leaf.{IsBounded}
-use Rattle.tree_rules.specs.Claim.{Network, CostOver, claimed_cost}
-use Rattle.tree_rules.specs.Costs.{HasFallen}
-use Rattle.tree_rules.specs.Accepted.{Tree, first_node}
-use Rattle.exact_numbers.specs.declared.number.Mixed.{Mixed}
-use Rattle.rank_rules.specs.declared.naming.Naming.TheVariants.{Within}
-use Rattle.rank_rules.specs.Leaf as ranks
-use Rattle.rank_rules.specs.Networks.{cost_of, last_cost, numbered}
-use Rattle.rank_rules.specs.Marked.{Mark}
-use Rattle.search_tree.specs.declared.shut.Shut.{Shut}
-use Rattle.search_tree.specs.declared.shut.Shut.TheVariants as shuts
-use Rattle.search_tree.specs.Cells.{Cell, place_of, cell_at}
-use Rattle.search_tree.specs.Fits.{EndFits}
-use Rattle.search_tree.specs.Shut.{shut_leaf}
-use Rattle.search_tree.proofs.ShutLemmas.{proof_of}
-use Rattle.search_tree.proofs.GrowLemmas.{leaf_fallen}
-use Rattle.node_evaluation.specs.Evaluated.{cost_over}
-use Rattle.node_evaluation.specs.Looks.{is_bounded, is_bounded_leaf, is_charged}
-use Rattle.node_evaluation.specs.Children.{claim_with}
+use Rattle.rank_check.specs.number_sets.Sets.{has, IsWithin}
+use Rattle.rank_check.specs.problem_rules.Problem.{Problem}
+use Rattle.rank_check.specs.problem_rules.Validity.{IsValid}
+use Rattle.rank_check.specs.pns_rules.Shape.{shape_of}
+use Rattle.rank_check.specs.pns_rules.Nodes.{Node}
+use Rattle.rank_check.specs.pgraph.View.{node_of}
+use Rattle.rank_check.specs.tree_rules.Tree.{End, leaf}
+use Rattle.rank_check.specs.tree_rules.Leaf as leaves
+use Rattle.rank_check.specs.tree_rules.Leaf.{Leaf, dead, clash, refuted, bounded, charged, untried}
+use Rattle.rank_check.specs.tree_rules.Leaf.{IsBounded}
+use Rattle.rank_check.specs.tree_rules.Claim.{Network, CostOver, claimed_cost}
+use Rattle.rank_check.specs.tree_rules.Costs.{HasFallen}
+use Rattle.rank_check.specs.tree_rules.Accepted.{Tree, first_node}
+use Rattle.rank_check.specs.exact_numbers.declared.number.Mixed.{Mixed}
+use Rattle.rank_check.specs.rank_rules.declared.naming.Naming.TheVariants.{Within}
+use Rattle.rank_check.specs.rank_rules.Leaf as ranks
+use Rattle.rank_check.specs.rank_rules.Networks.{cost_of, last_cost, numbered}
+use Rattle.rank_check.specs.rank_rules.Marked.{Mark}
+use Rattle.abb_search.specs.search_tree.declared.shut.Shut.{Shut}
+use Rattle.abb_search.specs.search_tree.declared.shut.Shut.TheVariants as shuts
+use Rattle.abb_search.specs.search_tree.Cells.{Cell, place_of, cell_at}
+use Rattle.abb_search.specs.search_tree.Fits.{EndFits}
+use Rattle.abb_search.specs.search_tree.Shut.{shut_leaf}
+use Rattle.abb_search.proofs.search_tree.Cited.{proof_of, leaf_fallen}
+use Rattle.abb_search.specs.node_evaluation.Evaluated.{cost_over}
+use Rattle.abb_search.specs.node_evaluation.Looks.{is_bounded, is_bounded_leaf, is_charged}
+use Rattle.abb_search.specs.node_evaluation.Children.{claim_with}
 use Rattle.abb_search.specs.declared.growing.Growing.{Growing}
 use Rattle.abb_search.specs.Growing.{IsTreeKeptFor}
 use Rattle.abb_search.specs.Closing.{EndsNode, EndSome, ShutsLeaf, ShutAll}

@@ -5,24 +5,24 @@ use Rattle.std.proofs.Common.{false, cond, List, [], ◌∷◌, ◌++◌, length
 use Rattle.std.proofs.Common.{None}
 use Rattle.std.proofs.Common.{refl, sym, ap, ◌∙◌, subst, arith, length-append}
 use Rattle.std.proofs.lemmas.List.{length-set}
-use Rattle.link_lists.specs.Lists.{has}
-use Rattle.problem_rules.specs.Problem.{Problem}
-use Rattle.problem_rules.specs.Validity.{IsValid}
-use Rattle.pns_rules.specs.Shape.{shape_of}
-use Rattle.pgraph.specs.View.{node_of}
-use Rattle.node_pool.specs.Pooled.{Pooled}
-use Rattle.tree_rules.specs.Tree.{branch, leaf}
-use Rattle.tree_rules.specs.Leaf.{bounded}
-use Rattle.tree_rules.specs.Claim.{Network}
-use Rattle.tree_rules.specs.Lean.{MayUndercut}
-use Rattle.exact_numbers.specs.declared.number.Mixed.{Mixed}
-use Rattle.search_tree.specs.Growth.{as_parent, as_shut, EndsOpen, is_open}
-use Rattle.search_tree.specs.Cells.{Cell, place_of, cell_at}
-use Rattle.node_evaluation.specs.declared.choice.Choice.{Choice}
-use Rattle.node_evaluation.specs.Choices.{IsChoice, way_of, option_count}
-use Rattle.node_evaluation.specs.Evaluated.{PastPlaces}
-use Rattle.node_evaluation.specs.Looks.{IsStop}
-use Rattle.node_evaluation.specs.Children.{AreSolvedBy, cells_of}
+use Rattle.abb_search.specs.link_lists.Lists.{has}
+use Rattle.rank_check.specs.problem_rules.Problem.{Problem}
+use Rattle.rank_check.specs.problem_rules.Validity.{IsValid}
+use Rattle.rank_check.specs.pns_rules.Shape.{shape_of}
+use Rattle.rank_check.specs.pgraph.View.{node_of}
+use Rattle.abb_search.specs.node_pool.Pooled.{Pooled}
+use Rattle.rank_check.specs.tree_rules.Tree.{branch, leaf}
+use Rattle.rank_check.specs.tree_rules.Leaf.{bounded}
+use Rattle.rank_check.specs.tree_rules.Claim.{Network}
+use Rattle.rank_check.specs.tree_rules.Lean.{MayUndercut}
+use Rattle.rank_check.specs.exact_numbers.declared.number.Mixed.{Mixed}
+use Rattle.abb_search.specs.search_tree.Growth.{as_parent, as_shut, EndsOpen, is_open}
+use Rattle.abb_search.specs.search_tree.Cells.{Cell, place_of, cell_at}
+use Rattle.abb_search.specs.node_evaluation.declared.choice.Choice.{Choice}
+use Rattle.abb_search.specs.node_evaluation.Choices.{IsChoice, way_of, option_count}
+use Rattle.abb_search.specs.node_evaluation.Evaluated.{PastPlaces}
+use Rattle.abb_search.specs.node_evaluation.Looks.{IsStop}
+use Rattle.abb_search.specs.node_evaluation.Children.{AreSolvedBy, cells_of}
 use Rattle.abb_search.specs.declared.growing.Growing.{Growing}
 use Rattle.abb_search.specs.declared.growing.StoppedLeaf.{StoppedLeaf}
 use Rattle.abb_search.specs.declared.rounds.Ending.{Ending}
@@ -31,11 +31,8 @@ use Rattle.abb_search.specs.Growing.{IsTreeKeptFor, IsGrowingFor, GoesOnFor, IsS
 use Rattle.abb_search.specs.Growing.{IsStoppedAt, IsBranching, IsSettledAt, IsLeastLeaf}
 use Rattle.abb_search.specs.Shutting.{IsShutAt, IsShutting}
 use Rattle.abb_search.specs.Rounds.{EndsWith}
-use Rattle.abb_search.proofs.KnownLemmas.{open_unbounded}
-use Rattle.abb_search.proofs.ReadyLemmas.{leaf_open}
-use Rattle.abb_search.proofs.ShuttingLemmas.{growing_now, many_now}
-use Rattle.abb_search.proofs.StepLemmas.{kept_but_hand}
-use Rattle.abb_search.proofs.TurnLemmas.{there, untried_there, hand, undercuts, branched_for}
+use Rattle.abb_search.proofs.Cited.{open_unbounded, leaf_open, growing_now, many_now, kept_but_hand}
+use Rattle.abb_search.proofs.Cited.{there, untried_there, hand, undercuts, branched_for}
 use Rattle.rank_search.proofs.GrowLemmas.{behind}
 use Rattle.rank_search.proofs.TurnLemmas.{resumed, tree_resumed, growing_resumed}
 use Rattle.rank_search.specs.declared.listing.Listing.{Listing}

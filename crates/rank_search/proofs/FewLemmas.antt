@@ -3,16 +3,16 @@
 use Rattle.std.proofs.Common.{◌≡◌, ℕ, zero, suc, ◌+◌, ◌^◌, ◌<◌, ◌≤◌, Bool, false, List, [], ◌∷◌}
 use Rattle.std.proofs.Common.{◌++◌, length, refl, sym, subst, arith}
 use Rattle.std.proofs.Math.Nat.{pow-le-pow_right}
-use Rattle.number_sets.specs.Sets.{listed}
-use Rattle.pns_rules.specs.Shape.{Shape, IsProper}
-use Rattle.pns_rules.specs.Structure.{IsUnion}
-use Rattle.pns_rules.specs.Nodes.{Node, is_free}
-use Rattle.pns_rules.specs.Ends.{IsSound, IsReduced}
-use Rattle.tree_rules.specs.Ways.{Way, MayBranch, options_at, IsDecision}
-use Rattle.tree_rules.specs.Tree.{End, branch, leaf, TreeNode, after_all, below, Stands, Pass}
-use Rattle.tree_laws.proofs.CountLemmas.{length-listed, free_count}
-use Rattle.search_tree.proofs.ReducedLemmas.{free_units_are_few}
-use Rattle.search_tree.proofs.SpentLemmas.{few_with_options}
+use Rattle.rank_check.specs.number_sets.Sets.{listed}
+use Rattle.rank_check.specs.pns_rules.Shape.{Shape, IsProper}
+use Rattle.rank_check.specs.pns_rules.Structure.{IsUnion}
+use Rattle.rank_check.specs.pns_rules.Nodes.{Node, is_free}
+use Rattle.rank_check.specs.pns_rules.Ends.{IsSound, IsReduced}
+use Rattle.rank_check.specs.tree_rules.Ways.{Way, MayBranch, options_at, IsDecision}
+use Rattle.rank_check.specs.tree_rules.Tree.{End, branch, leaf, TreeNode, after_all, below, Stands}
+use Rattle.rank_check.specs.tree_rules.Tree.{Pass}
+use Rattle.rank_check.proofs.tree_laws.Cited.{length-listed, free_count}
+use Rattle.abb_search.proofs.search_tree.Cited.{free_units_are_few, few_with_options}
 
 module _ (g : Shape) (proper : IsProper g) (all : ℕ → Bool) (union : IsUnion g (λ u. false) all)
     {L : Type 0} (P : Node → L → Type 0) (start : Node) where

@@ -4,36 +4,33 @@ use Rattle.std.proofs.Common.{◌≡◌, ℕ, zero, suc, ◌+◌, ◌^◌, ◌<�
 use Rattle.std.proofs.Common.{length, map, slice_set, Option, Some, None, refl, sym, ap, ◌∙◌, subst}
 use Rattle.std.proofs.Common.{arith}
 use Rattle.std.proofs.lemmas.List.{length-set}
-use Rattle.number_sets.specs.Options.{IsIn}
-use Rattle.link_lists.specs.Lists.{has}
-use Rattle.problem_rules.specs.Problem.{Problem}
-use Rattle.problem_rules.specs.Validity.{IsValid}
-use Rattle.pns_rules.specs.Shape.{shape_of}
-use Rattle.pns_rules.specs.Nodes.{Node}
-use Rattle.pns_rules.specs.Ends.{IsSound, IsDead, IsNever}
-use Rattle.pgraph.specs.View.{node_of}
-use Rattle.tree_rules.specs.Ways.{Way, MayBranch, options_at, child_at}
-use Rattle.tree_rules.specs.Tree.{branch}
-use Rattle.tree_rules.specs.Claim.{Network, CostOver, claimed_cost}
-use Rattle.tree_rules.specs.Lean.{MayUndercut, IsNoDearer}
-use Rattle.search_tree.proofs.ValueLemmas.{ways_are_dearer}
-use Rattle.search_tree.specs.Cells.{Cell, place_of, cell_at}
-use Rattle.search_tree.specs.Fits.{Follows}
-use Rattle.search_tree.specs.Growth.{as_parent}
-use Rattle.search_tree.specs.Turns.{AreChildren}
-use Rattle.search_tree.proofs.OrderLemmas.{reached_dearer}
-use Rattle.node_evaluation.specs.declared.choice.Choice.{Choice}
-use Rattle.node_evaluation.specs.Choices.{IsChoice, way_of, option_count}
-use Rattle.node_evaluation.specs.Evaluated.{PastPlaces, cost_in}
-use Rattle.node_evaluation.specs.Children.{claim_with, AreSolvedBy, cells_of}
-use Rattle.node_evaluation.proofs.ChildLemmas.{comes}
-use Rattle.node_evaluation.proofs.ChoiceLemmas.{may_branch}
+use Rattle.rank_check.specs.number_sets.Options.{IsIn}
+use Rattle.abb_search.specs.link_lists.Lists.{has}
+use Rattle.rank_check.specs.problem_rules.Problem.{Problem}
+use Rattle.rank_check.specs.problem_rules.Validity.{IsValid}
+use Rattle.rank_check.specs.pns_rules.Shape.{shape_of}
+use Rattle.rank_check.specs.pns_rules.Nodes.{Node}
+use Rattle.rank_check.specs.pns_rules.Ends.{IsSound, IsDead, IsNever}
+use Rattle.rank_check.specs.pgraph.View.{node_of}
+use Rattle.rank_check.specs.tree_rules.Ways.{Way, MayBranch, options_at, child_at}
+use Rattle.rank_check.specs.tree_rules.Tree.{branch}
+use Rattle.rank_check.specs.tree_rules.Claim.{Network, CostOver, claimed_cost}
+use Rattle.rank_check.specs.tree_rules.Lean.{MayUndercut, IsNoDearer}
+use Rattle.abb_search.proofs.search_tree.Cited.{ways_are_dearer, reached_dearer}
+use Rattle.abb_search.specs.search_tree.Cells.{Cell, place_of, cell_at}
+use Rattle.abb_search.specs.search_tree.Fits.{Follows}
+use Rattle.abb_search.specs.search_tree.Growth.{as_parent}
+use Rattle.abb_search.specs.search_tree.Turns.{AreChildren}
+use Rattle.abb_search.specs.node_evaluation.declared.choice.Choice.{Choice}
+use Rattle.abb_search.specs.node_evaluation.Choices.{IsChoice, way_of, option_count}
+use Rattle.abb_search.specs.node_evaluation.Evaluated.{PastPlaces, cost_in}
+use Rattle.abb_search.specs.node_evaluation.Children.{claim_with, AreSolvedBy, cells_of}
+use Rattle.abb_search.proofs.node_evaluation.Cited.{comes, may_branch}
 use Rattle.abb_search.specs.declared.growing.Growing.{Growing}
 use Rattle.abb_search.specs.Growing.{IsGrowingFor, IsSettledAt, IsLeastLeaf, LeafUndercuts}
 use Rattle.abb_search.specs.Growing.{IsBranching}
-use Rattle.abb_search.proofs.HandLemmas.{children_kept}
-use Rattle.abb_search.proofs.TurnLemmas.{there, untried_there, hand, sound_there, undercuts}
-use Rattle.abb_search.proofs.TurnLemmas.{branched_for}
+use Rattle.abb_search.proofs.Cited.{children_kept, there, untried_there, hand, sound_there}
+use Rattle.abb_search.proofs.Cited.{undercuts, branched_for}
 use Rattle.rank_search.specs.Found.{AreBest, undercut_by}
 use Rattle.rank_search.specs.Listed.{Listed, IsListed, AreAdded}
 use Rattle.rank_search.proofs.CostLemmas.{AreReached, undercut_positive, all_reached}

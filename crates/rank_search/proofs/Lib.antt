@@ -21,3 +21,4 @@ pub mod TellingLemmas
 pub mod ToldLemmas
 pub mod ToldTreeLemmas
 pub mod TurnLemmas
+pub use Rattle.abb_search.proofs as abb_search

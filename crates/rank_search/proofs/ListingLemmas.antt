@@ -9,18 +9,18 @@ use Rattle.std.specs.List.{slice_get}
 use Rattle.std.proofs.lemmas.Bool.{cases_eq, cases_lt}
 use Rattle.std.proofs.lemmas.List.{get_or_append_left, get_or-append-add, get_or-set_same}
 use Rattle.std.proofs.lemmas.List.{get_or-set_other, length-set}
-use Rattle.problem_rules.specs.Problem.{Problem}
-use Rattle.pns_rules.specs.Nodes.{Node}
-use Rattle.tree_rules.specs.Tree.{End, leaf}
-use Rattle.tree_rules.specs.Leaf.{Leaf, bounded, IsBounded}
-use Rattle.tree_rules.specs.Claim.{Network, CostOver, IsFeasible}
-use Rattle.tree_rules.specs.Costs.{IsNoMore}
-use Rattle.search_tree.proofs.FractionLemmas.{fraction_trans}
-use Rattle.exact_numbers.specs.declared.number.Mixed.{Mixed}
-use Rattle.search_tree.specs.Cells.{Cell, no_cell, place_of, cell_at}
-use Rattle.node_evaluation.specs.Evaluated.{cost_over, cost_in}
-use Rattle.node_evaluation.specs.Looks.{is_bounded, is_charged}
-use Rattle.node_evaluation.specs.Children.{IsSolvedAs, IsSolvedBy, AreSolvedBy}
+use Rattle.rank_check.specs.problem_rules.Problem.{Problem}
+use Rattle.rank_check.specs.pns_rules.Nodes.{Node}
+use Rattle.rank_check.specs.tree_rules.Tree.{End, leaf}
+use Rattle.rank_check.specs.tree_rules.Leaf.{Leaf, bounded, IsBounded}
+use Rattle.rank_check.specs.tree_rules.Claim.{Network, CostOver, IsFeasible}
+use Rattle.rank_check.specs.tree_rules.Costs.{IsNoMore}
+use Rattle.abb_search.proofs.search_tree.Cited.{fraction_trans}
+use Rattle.rank_check.specs.exact_numbers.declared.number.Mixed.{Mixed}
+use Rattle.abb_search.specs.search_tree.Cells.{Cell, no_cell, place_of, cell_at}
+use Rattle.abb_search.specs.node_evaluation.Evaluated.{cost_over, cost_in}
+use Rattle.abb_search.specs.node_evaluation.Looks.{is_bounded, is_charged}
+use Rattle.abb_search.specs.node_evaluation.Children.{IsSolvedAs, IsSolvedBy, AreSolvedBy}
 use Rattle.rank_search.specs.Found.{FoundAt}
 use Rattle.rank_search.specs.Plants.{IsInList, IsOutdone, AreAdded}
 use Rattle.rank_search.specs.Listing.{IsCovered, IsReachedAs, reached_of, IsListing}

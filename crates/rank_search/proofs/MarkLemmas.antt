@@ -4,21 +4,22 @@ use Rattle.std.proofs.Common.{◌≡◌, ℕ, zero, suc, ◌+◌, Bool, List, []
 use Rattle.std.proofs.Common.{drop}
 use Rattle.std.proofs.Common.{slice_set, Option, Some, None, refl, sym, ap, ap₂, ◌∙◌, subst, arith}
 use Rattle.std.specs.List.{slice_get}
-use Rattle.problem_rules.specs.Each.{Each}
-use Rattle.problem_rules.specs.Problem.{Problem}
-use Rattle.tree_rules.specs.Tree.{End, branch, leaf, TreeNode, children, HasChildren, IsForest}
-use Rattle.tree_rules.specs.Tree.{IsTree}
-use Rattle.tree_rules.specs.Leaf.{Leaf, dead, clash, refuted, bounded, charged, untried}
-use Rattle.tree_rules.specs.Accepted.{Tree}
-use Rattle.rank_rules.specs.declared.naming.Naming.{Naming}
-use Rattle.rank_rules.specs.Leaf as ranks
-use Rattle.rank_rules.specs.Ranked as ranked
-use Rattle.tree_rules.specs.Known.{KnowsEnd, KnowsTree}
-use Rattle.rank_rules.specs.Marked.{Mark, marked, marked_end, first_mark, marks_behind}
+use Rattle.rank_check.specs.problem_rules.Each.{Each}
+use Rattle.rank_check.specs.problem_rules.Problem.{Problem}
+use Rattle.rank_check.specs.tree_rules.Tree.{End, branch, leaf, TreeNode, children, HasChildren}
+use Rattle.rank_check.specs.tree_rules.Tree.{IsForest}
+use Rattle.rank_check.specs.tree_rules.Tree.{IsTree}
+use Rattle.rank_check.specs.tree_rules.Leaf.{Leaf, dead, clash, refuted, bounded, charged, untried}
+use Rattle.rank_check.specs.tree_rules.Accepted.{Tree}
+use Rattle.rank_check.specs.rank_rules.declared.naming.Naming.{Naming}
+use Rattle.rank_check.specs.rank_rules.Leaf as ranks
+use Rattle.rank_check.specs.rank_rules.Ranked as ranked
+use Rattle.rank_check.specs.tree_rules.Known.{KnowsEnd, KnowsTree}
+use Rattle.rank_check.specs.rank_rules.Marked.{Mark, marked, marked_end, first_mark, marks_behind}
 use Rattle.rank_check.specs.declared.mark.Mark as code
 use Rattle.rank_check.specs.View.{mark_of}
-use Rattle.rank_rules.specs.Text.{AreNumbered, FitsWay, FitWays, IsBareAt, AreBare}
-use Rattle.search_tree.specs.Preorder.{told_end}
+use Rattle.rank_check.specs.rank_rules.Text.{AreNumbered, FitsWay, FitWays, IsBareAt, AreBare}
+use Rattle.abb_search.specs.search_tree.Preorder.{told_end}
 use Rattle.rank_search.specs.Naming.{Names, opened_end, opened_node, opened, marks_at, marks_in}
 use Rattle.rank_search.specs.Naming.{marks_of}
 use Rattle.rank_search.proofs.NameLemmas.{IsCountedName}

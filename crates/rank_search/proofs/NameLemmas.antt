@@ -7,8 +7,8 @@ use Rattle.std.specs.List.{slice_get}
 use Rattle.std.specs.Prelude.{get_or}
 use Rattle.std.proofs.lemmas.Bool.{cases_eq, cases_lt}
 use Rattle.std.proofs.lemmas.List.{get_or-set_same, get_or-set_other, get_or_past, length-set}
-use Rattle.problem_rules.specs.Each.{Each}
-use Rattle.tree_rules.specs.Claim.{IsSized}
+use Rattle.rank_check.specs.problem_rules.Each.{Each}
+use Rattle.rank_check.specs.tree_rules.Claim.{IsSized}
 use Rattle.rank_search.specs.Found.{FoundAt, networks_of, IsOfLeaf}
 use Rattle.rank_search.specs.Naming.{Names, AreWithin, names_with, names_of, name_at, names_at}
 

@@ -5,27 +5,28 @@ use Rattle.std.proofs.Common.{◌∷◌, length, Option, Some, None, refl, sym, 
 use Rattle.std.proofs.Common.{inl, inr, eq-eqb, true≢false}
 use Rattle.std.specs.List.{slice_get}
 use Rattle.std.proofs.lemmas.List.{length-map}
-use Rattle.problem_rules.specs.Problem.{Problem}
-use Rattle.pns_rules.specs.Shape.{shape_of}
-use Rattle.pns_rules.specs.Nodes.{Node}
-use Rattle.tree_rules.specs.Tree.{End, leaf}
-use Rattle.tree_rules.specs.Leaf as leaves
-use Rattle.tree_rules.specs.Leaf.{Leaf, Scaled, dead, clash, refuted, bounded, charged, untried}
-use Rattle.tree_rules.specs.Leaf.{IsUntried, IsBounded}
-use Rattle.tree_rules.specs.Claim.{Network, CostOver}
-use Rattle.rank_rules.specs.declared.naming.Naming.{Naming}
-use Rattle.rank_rules.specs.declared.naming.Naming.TheVariants.{Only}
-use Rattle.rank_rules.specs.Leaf as ranks
-use Rattle.rank_rules.specs.Leaf.{IsOpenLeaf}
-use Rattle.rank_rules.specs.Networks.{numbered, network_at, last_cost}
-use Rattle.search_tree.specs.Growth.{EndsOpen}
-use Rattle.search_tree.specs.declared.shut.Shut.{Shut}
-use Rattle.search_tree.specs.declared.shut.Shut.TheVariants as shuts
-use Rattle.search_tree.specs.Cells.{Cell, place_of, cell_at}
-use Rattle.search_tree.specs.Fits.{EndFits, Fits}
-use Rattle.search_tree.specs.Shut.{shut_as, shut_leaf}
-use Rattle.search_tree.proofs.ShutLemmas.{proof_of}
-use Rattle.node_evaluation.specs.Looks.{is_charged_leaf, is_charged}
+use Rattle.rank_check.specs.problem_rules.Problem.{Problem}
+use Rattle.rank_check.specs.pns_rules.Shape.{shape_of}
+use Rattle.rank_check.specs.pns_rules.Nodes.{Node}
+use Rattle.rank_check.specs.tree_rules.Tree.{End, leaf}
+use Rattle.rank_check.specs.tree_rules.Leaf as leaves
+use Rattle.rank_check.specs.tree_rules.Leaf.{Leaf, Scaled, dead, clash, refuted, bounded, charged}
+use Rattle.rank_check.specs.tree_rules.Leaf.{untried}
+use Rattle.rank_check.specs.tree_rules.Leaf.{IsUntried, IsBounded}
+use Rattle.rank_check.specs.tree_rules.Claim.{Network, CostOver}
+use Rattle.rank_check.specs.rank_rules.declared.naming.Naming.{Naming}
+use Rattle.rank_check.specs.rank_rules.declared.naming.Naming.TheVariants.{Only}
+use Rattle.rank_check.specs.rank_rules.Leaf as ranks
+use Rattle.rank_check.specs.rank_rules.Leaf.{IsOpenLeaf}
+use Rattle.rank_check.specs.rank_rules.Networks.{numbered, network_at, last_cost}
+use Rattle.abb_search.specs.search_tree.Growth.{EndsOpen}
+use Rattle.abb_search.specs.search_tree.declared.shut.Shut.{Shut}
+use Rattle.abb_search.specs.search_tree.declared.shut.Shut.TheVariants as shuts
+use Rattle.abb_search.specs.search_tree.Cells.{Cell, place_of, cell_at}
+use Rattle.abb_search.specs.search_tree.Fits.{EndFits, Fits}
+use Rattle.abb_search.specs.search_tree.Shut.{shut_as, shut_leaf}
+use Rattle.abb_search.proofs.search_tree.Cited.{proof_of}
+use Rattle.abb_search.specs.node_evaluation.Looks.{is_charged_leaf, is_charged}
 use Rattle.abb_search.specs.declared.growing.Growing.{Growing}
 use Rattle.abb_search.specs.Closing.{EndsNode, ShutsLeaf, ShutAll, EndsIfSome, EndSome}
 use Rattle.abb_search.specs.Closing.{LeavesOpen}

@@ -4,28 +4,28 @@ use Rattle.std.proofs.Common.{◌≡◌, ℕ, suc, ◌<◌, Bool, true, false, L
 use Rattle.std.proofs.Common.{refl}
 use Rattle.std.proofs.Common.{sym, ap, ◌∙◌, subst, inl, inr}
 use Rattle.std.specs.List.{slice_get}
-use Rattle.number_sets.specs.Sets.{has}
-use Rattle.number_sets.proofs.SetLemmas.{below_from}
-use Rattle.problem_rules.specs.Each.{Each}
-use Rattle.problem_rules.specs.Problem.{Problem}
-use Rattle.problem_rules.specs.Validity.{IsValid}
-use Rattle.pns_rules.specs.Shape.{shape_of}
-use Rattle.pns_rules.specs.Structure.{IsStructure, IsAllowed, InFamily}
-use Rattle.pns_rules.specs.Nodes.{Node}
-use Rattle.pns_rules.specs.Ends.{IsSound}
-use Rattle.tree_rules.specs.Tree.{leaf, Stands}
-use Rattle.tree_rules.specs.Claim as claims
-use Rattle.tree_rules.specs.Claim.{claimed_cost, ClaimPasses, IsSized}
-use Rattle.tree_rules.specs.Leaf.{bounded, LeafPasses}
-use Rattle.tree_rules.specs.Accepted.{Proves}
-use Rattle.tree_laws.proofs.AcceptedLemmas.{leaves_are_apart}
-use Rattle.rank_rules.specs.Networks.{RisesFrom, IsNewTo, ArePassing}
+use Rattle.rank_check.specs.number_sets.Sets.{has}
+use Rattle.rank_check.proofs.number_sets.Cited.{below_from}
+use Rattle.rank_check.specs.problem_rules.Each.{Each}
+use Rattle.rank_check.specs.problem_rules.Problem.{Problem}
+use Rattle.rank_check.specs.problem_rules.Validity.{IsValid}
+use Rattle.rank_check.specs.pns_rules.Shape.{shape_of}
+use Rattle.rank_check.specs.pns_rules.Structure.{IsStructure, IsAllowed, InFamily}
+use Rattle.rank_check.specs.pns_rules.Nodes.{Node}
+use Rattle.rank_check.specs.pns_rules.Ends.{IsSound}
+use Rattle.rank_check.specs.tree_rules.Tree.{leaf, Stands}
+use Rattle.rank_check.specs.tree_rules.Claim as claims
+use Rattle.rank_check.specs.tree_rules.Claim.{claimed_cost, ClaimPasses, IsSized}
+use Rattle.rank_check.specs.tree_rules.Leaf.{bounded, LeafPasses}
+use Rattle.rank_check.specs.tree_rules.Accepted.{Proves}
+use Rattle.rank_check.proofs.tree_laws.Cited.{leaves_are_apart}
+use Rattle.rank_check.specs.rank_rules.Networks.{RisesFrom, IsNewTo, ArePassing}
 use Rattle.rank_check.specs.Known.{KnowsNetwork}
-use Rattle.search_tree.specs.Cells.{Cell, place_of, cell_at}
-use Rattle.search_tree.specs.Preorder.{IsPreorder, tree_of}
-use Rattle.search_tree.specs.Laws.{IsGrown}
-use Rattle.search_tree.proofs.PassLemmas.{passes, cells_stand, aligned_start}
-use Rattle.node_evaluation.specs.Looks.{IsFoundAt}
+use Rattle.abb_search.specs.search_tree.Cells.{Cell, place_of, cell_at}
+use Rattle.abb_search.specs.search_tree.Preorder.{IsPreorder, tree_of}
+use Rattle.abb_search.specs.search_tree.Laws.{IsGrown}
+use Rattle.abb_search.proofs.search_tree.Cited.{passes, cells_stand, aligned_start}
+use Rattle.abb_search.specs.node_evaluation.Looks.{IsFoundAt}
 use Rattle.rank_search.specs.Found.{FoundAt, networks_of, IsOfLeaf, AreApart, AreRising}
 use Rattle.rank_search.specs.Found.{IsFoundThere}
 use Rattle.rank_search.proofs.OrderLemmas.{stands_in}

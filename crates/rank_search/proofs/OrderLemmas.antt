@@ -4,19 +4,20 @@ use Rattle.std.proofs.Common.{◌≡◌, ℕ, suc, ◌+◌, ◌<◌, List, [], �
 use Rattle.std.proofs.Common.{refl, sym, ap, ap₂, subst, arith, inl, inr, ne_eqb}
 use Rattle.std.specs.List.{slice_get}
 use Rattle.std.proofs.lemmas.Bool.{cases_eq}
-use Rattle.problem_rules.specs.Each.{Each}
-use Rattle.tree_rules.specs.Tree.{End, branch, leaf, TreeNode}
-use Rattle.tree_rules.specs.Leaf.{Leaf}
-use Rattle.rank_rules.specs.declared.naming.Naming.{Naming}
-use Rattle.rank_rules.specs.Leaf as ranks
-use Rattle.rank_rules.specs.Ranked as ranked
-use Rattle.search_tree.specs.declared.shut.Shut.{Shut}
-use Rattle.search_tree.specs.Cells.{Cell, cell_at, times, children_at, IsLinked}
-use Rattle.search_tree.specs.Preorder.{IsPreorder, node_at, tree_of, told_end, told_at, told_tree}
-use Rattle.search_tree.specs.Shut.{shut_leaf, shut_end, shut_cells}
-use Rattle.search_tree.proofs.CountLemmas.{once}
-use Rattle.search_tree.proofs.ShutLemmas.{proof_of, shut_at, children_stay}
-use Rattle.search_tree.proofs.TreeLemmas.{AreThere, there-append, children_there}
+use Rattle.rank_check.specs.problem_rules.Each.{Each}
+use Rattle.rank_check.specs.tree_rules.Tree.{End, branch, leaf, TreeNode}
+use Rattle.rank_check.specs.tree_rules.Leaf.{Leaf}
+use Rattle.rank_check.specs.rank_rules.declared.naming.Naming.{Naming}
+use Rattle.rank_check.specs.rank_rules.Leaf as ranks
+use Rattle.rank_check.specs.rank_rules.Ranked as ranked
+use Rattle.abb_search.specs.search_tree.declared.shut.Shut.{Shut}
+use Rattle.abb_search.specs.search_tree.Cells.{Cell, cell_at, times, children_at, IsLinked}
+use Rattle.abb_search.specs.search_tree.Preorder.{IsPreorder, node_at, tree_of, told_end, told_at}
+use Rattle.abb_search.specs.search_tree.Preorder.{told_tree}
+use Rattle.abb_search.specs.search_tree.Shut.{shut_leaf, shut_end, shut_cells}
+use Rattle.abb_search.proofs.search_tree.Cited.{once, proof_of, shut_at, children_stay, AreThere}
+use Rattle.abb_search.proofs.search_tree.Cited.{there-append}
+use Rattle.abb_search.proofs.search_tree.Cited.{children_there}
 use Rattle.rank_search.specs.Naming.{Names, name_at, names_at}
 use Rattle.rank_search.proofs.MarkLemmas.{named_leaf, named_node, named_tree}
 

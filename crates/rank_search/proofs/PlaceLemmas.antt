@@ -8,9 +8,9 @@ use Rattle.std.specs.List.{AllWithin}
 use Rattle.std.specs.List.Sorted.{IsPartitionedBy}
 use Rattle.std.proofs.lemmas.Float.{T_from_true}
 use Rattle.std.proofs.lemmas.Int.{ints, by_lt_z}
-use Rattle.tree_rules.specs.Claim.{Network}
-use Rattle.search_tree.proofs.FractionLemmas.{fraction_trans}
-use Rattle.rank_rules.specs.Networks.{IsNoCheaper}
+use Rattle.rank_check.specs.tree_rules.Claim.{Network}
+use Rattle.abb_search.proofs.search_tree.Cited.{fraction_trans}
+use Rattle.rank_check.specs.rank_rules.Networks.{IsNoCheaper}
 use Rattle.rank_search.specs.Found.{FoundAt, AreRising}
 use Rattle.rank_search.specs.Listed.{Listed, AreScaled, IsListed, AreNoDearer, AreDearer, IsAdded}
 use Rattle.rank_search.specs.Listed.{IsSomeAdded, AreAdded}

@@ -6,13 +6,13 @@ use Rattle.std.proofs.Common.{◌≡◌, ◌⊎◌, ℕ, zero, suc, ◌+◌, ◌
 use Rattle.std.proofs.Common.{false, List, [], ◌∷◌, ◌++◌, length, take, Option, Some, None, refl}
 use Rattle.std.proofs.Common.{sym, ap, ◌∙◌, subst, arith, inl, inr, true≢false}
 use Rattle.std.proofs.lemmas.Int.{ints}
-use Rattle.problem_rules.specs.Each.{Each}
-use Rattle.tree_rules.specs.Claim.{Network, IsSized}
-use Rattle.exact_numbers.specs.declared.number.Mixed.{Mixed}
-use Rattle.tree_rules.specs.Claim.{CostOver}
-use Rattle.node_evaluation.specs.Evaluated.{cost_over, cost_in}
-use Rattle.tree_rules.specs.Costs.{IsNoMore}
-use Rattle.rank_rules.specs.Networks.{Repeats, AreAlike, IsNoCheaper}
+use Rattle.rank_check.specs.problem_rules.Each.{Each}
+use Rattle.rank_check.specs.tree_rules.Claim.{Network, IsSized}
+use Rattle.rank_check.specs.exact_numbers.declared.number.Mixed.{Mixed}
+use Rattle.rank_check.specs.tree_rules.Claim.{CostOver}
+use Rattle.abb_search.specs.node_evaluation.Evaluated.{cost_over, cost_in}
+use Rattle.rank_check.specs.tree_rules.Costs.{IsNoMore}
+use Rattle.rank_check.specs.rank_rules.Networks.{Repeats, AreAlike, IsNoCheaper}
 use Rattle.rank_search.specs.Found.{FoundAt, networks_of, AreRising}
 use Rattle.rank_search.specs.Listed.{AreScaled, AreNoDearer, AreDearer}
 use Rattle.rank_search.proofs.PlaceLemmas.{no_cheaper_trans, rising_tail, rising_between, take_drop}

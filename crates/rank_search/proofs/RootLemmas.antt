@@ -1,26 +1,25 @@
 -- A search that has looked at the root alone.
 use Rattle.std.proofs.Common.{◌≡◌, ℕ, ◌<◌, ◌≤◌, List, [], ◌∷◌, ◌++◌, length, Option, Some, None}
 use Rattle.std.proofs.Common.{refl, sym, ap, ◌∙◌, subst, arith}
-use Rattle.problem_rules.specs.Problem.{Problem}
-use Rattle.pns_rules.specs.Shape.{Shape}
-use Rattle.pns_rules.specs.Nodes.{Node}
-use Rattle.pns_rules.specs.Ends.{IsSound}
-use Rattle.pgraph.specs.View.{node_of}
-use Rattle.unit_sets.specs.declared.node.Node as starts
-use Rattle.tree_rules.specs.Tree.{End, leaf}
-use Rattle.tree_rules.specs.Leaf.{Leaf, dead, clash, refuted, bounded, charged, untried}
-use Rattle.tree_rules.specs.Claim.{Network, CostOver}
-use Rattle.tree_rules.specs.Accepted.{first_node}
-use Rattle.search_tree.specs.Cells.{Cell, place_of, cell_at}
-use Rattle.search_tree.specs.Values.{IsPositiveCost}
-use Rattle.search_tree.specs.Kept.{LeafIsKept, EndIsKept}
-use Rattle.node_evaluation.specs.Evaluated.{PastPlaces}
-use Rattle.node_evaluation.specs.Children.{AreSolvedBy}
+use Rattle.rank_check.specs.problem_rules.Problem.{Problem}
+use Rattle.rank_check.specs.pns_rules.Shape.{Shape}
+use Rattle.rank_check.specs.pns_rules.Nodes.{Node}
+use Rattle.rank_check.specs.pns_rules.Ends.{IsSound}
+use Rattle.rank_check.specs.pgraph.View.{node_of}
+use Rattle.rank_check.specs.unit_sets.declared.node.Node as starts
+use Rattle.rank_check.specs.tree_rules.Tree.{End, leaf}
+use Rattle.rank_check.specs.tree_rules.Leaf.{Leaf, dead, clash, refuted, bounded, charged, untried}
+use Rattle.rank_check.specs.tree_rules.Claim.{Network, CostOver}
+use Rattle.rank_check.specs.tree_rules.Accepted.{first_node}
+use Rattle.abb_search.specs.search_tree.Cells.{Cell, place_of, cell_at}
+use Rattle.abb_search.specs.search_tree.Values.{IsPositiveCost}
+use Rattle.abb_search.specs.search_tree.Kept.{LeafIsKept, EndIsKept}
+use Rattle.abb_search.specs.node_evaluation.Evaluated.{PastPlaces}
+use Rattle.abb_search.specs.node_evaluation.Children.{AreSolvedBy}
 use Rattle.abb_search.specs.declared.growing.Growing.{Growing}
 use Rattle.abb_search.specs.declared.growing.StoppedLeaf.{StoppedLeaf}
 use Rattle.abb_search.specs.Growing.{IsTreeKept, IsTreeKeptFor, GoesOn, GoesOnFor, IsLookedRoot}
-use Rattle.abb_search.proofs.HandLemmas.{child_same}
-use Rattle.abb_search.proofs.RootLemmas.{root_after}
+use Rattle.abb_search.proofs.Cited.{child_same, root_after}
 use Rattle.rank_search.specs.Found.{FoundAt, AreBest, undercut_by}
 use Rattle.rank_search.specs.Listed.{Listed, IsListed, AreAdded}
 use Rattle.rank_search.proofs.CostLemmas.{undercut_positive}

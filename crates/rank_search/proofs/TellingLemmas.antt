@@ -7,51 +7,52 @@ use Rattle.std.proofs.Common.{length, Option, Some, None, Result, Ok, Err, refl,
 use Rattle.std.proofs.Common.{subst, arith}
 use Rattle.std.specs.List.{slice_get}
 use Rattle.std.proofs.lemmas.List.{length-map}
-use Rattle.number_sets.specs.Sets.{listed}
-use Rattle.problem_rules.specs.Each.{Each}
-use Rattle.problem_rules.specs.Problem.{Problem}
-use Rattle.problem_rules.specs.Validity.{IsValid}
-use Rattle.pns_rules.specs.Shape.{shape_of}
-use Rattle.pns_rules.specs.Nodes.{Node}
-use Rattle.pns_rules.proofs.ProperLemmas.{proper_if_valid}
-use Rattle.pgraph.specs.View.{node_of}
-use Rattle.tree_rules.specs.Ways.{options_at}
-use Rattle.tree_rules.specs.Tree.{End, branch, leaf, Pass, Stands}
-use Rattle.tree_rules.specs.Leaf as leaves
-use Rattle.tree_rules.specs.Leaf.{Leaf, dead, clash, refuted, bounded, charged, untried, IsUntried}
-use Rattle.tree_rules.specs.Claim.{Network, CostOver, claimed_cost, IsSized}
-use Rattle.tree_rules.specs.Lean.{IsLean}
-use Rattle.tree_rules.specs.Stops.{IsOpenAt, IsPending, IsSpent}
-use Rattle.tree_rules.specs.Accepted.{Tree, first_node}
+use Rattle.rank_check.specs.number_sets.Sets.{listed}
+use Rattle.rank_check.specs.problem_rules.Each.{Each}
+use Rattle.rank_check.specs.problem_rules.Problem.{Problem}
+use Rattle.rank_check.specs.problem_rules.Validity.{IsValid}
+use Rattle.rank_check.specs.pns_rules.Shape.{shape_of}
+use Rattle.rank_check.specs.pns_rules.Nodes.{Node}
+use Rattle.rank_check.proofs.pns_rules.Cited.{proper_if_valid}
+use Rattle.rank_check.specs.pgraph.View.{node_of}
+use Rattle.rank_check.specs.tree_rules.Ways.{options_at}
+use Rattle.rank_check.specs.tree_rules.Tree.{End, branch, leaf, Pass, Stands}
+use Rattle.rank_check.specs.tree_rules.Leaf as leaves
+use Rattle.rank_check.specs.tree_rules.Leaf.{Leaf, dead, clash, refuted, bounded, charged, untried}
+use Rattle.rank_check.specs.tree_rules.Leaf.{IsUntried}
+use Rattle.rank_check.specs.tree_rules.Claim.{Network, CostOver, claimed_cost, IsSized}
+use Rattle.rank_check.specs.tree_rules.Lean.{IsLean}
+use Rattle.rank_check.specs.tree_rules.Stops.{IsOpenAt, IsPending, IsSpent}
+use Rattle.rank_check.specs.tree_rules.Accepted.{Tree, first_node}
 use Rattle.rank_check.specs.Known.{KnowsNetwork}
-use Rattle.rank_rules.specs.declared.naming.Naming.{Naming}
-use Rattle.rank_rules.specs.declared.naming.Naming.TheVariants.{Only}
-use Rattle.rank_rules.specs.Leaf as ranks
-use Rattle.rank_rules.specs.Networks.{ArePassing, to_undercut}
-use Rattle.rank_rules.specs.Ranked as ranked
-use Rattle.tree_rules.specs.Known.{KnowsEnd, KnowsTree}
-use Rattle.rank_rules.specs.Marked.{Mark, marked}
-use Rattle.rank_rules.specs.Text.{AreNumbered, FitsWay, FitWays, AreBare}
-use Rattle.search_tree.specs.declared.shut.Shut.{Shut}
-use Rattle.search_tree.specs.declared.shut.Shut.TheVariants as shuts
-use Rattle.search_tree.specs.Cells.{Cell, place_of, cell_at, IsLinked}
-use Rattle.search_tree.specs.Growth.{as_shut, EndsOpen}
-use Rattle.search_tree.specs.Preorder.{IsPreorder, node_at, tree_of, told_tree}
-use Rattle.search_tree.specs.Shut.{shut_as, shut_end, shut_cells}
-use Rattle.search_tree.proofs.CountLemmas.{preorder_has_all}
-use Rattle.search_tree.proofs.PassLemmas.{passes, cells_stand, told_passes, aligned_start}
-use Rattle.search_tree.proofs.ShutLemmas.{proof_of, shut_at, shut_length, shut_linked}
-use Rattle.search_tree.proofs.LeanLemmas.{kept_is_lean}
-use Rattle.node_evaluation.specs.Children.{claim_with}
-use Rattle.node_evaluation.specs.Looks.{KnowsCell}
+use Rattle.rank_check.specs.rank_rules.declared.naming.Naming.{Naming}
+use Rattle.rank_check.specs.rank_rules.declared.naming.Naming.TheVariants.{Only}
+use Rattle.rank_check.specs.rank_rules.Leaf as ranks
+use Rattle.rank_check.specs.rank_rules.Networks.{ArePassing, to_undercut}
+use Rattle.rank_check.specs.rank_rules.Ranked as ranked
+use Rattle.rank_check.specs.tree_rules.Known.{KnowsEnd, KnowsTree}
+use Rattle.rank_check.specs.rank_rules.Marked.{Mark, marked}
+use Rattle.rank_check.specs.rank_rules.Text.{AreNumbered, FitsWay, FitWays, AreBare}
+use Rattle.abb_search.specs.search_tree.declared.shut.Shut.{Shut}
+use Rattle.abb_search.specs.search_tree.declared.shut.Shut.TheVariants as shuts
+use Rattle.abb_search.specs.search_tree.Cells.{Cell, place_of, cell_at, IsLinked}
+use Rattle.abb_search.specs.search_tree.Growth.{as_shut, EndsOpen}
+use Rattle.abb_search.specs.search_tree.Preorder.{IsPreorder, node_at, tree_of, told_tree}
+use Rattle.abb_search.specs.search_tree.Shut.{shut_as, shut_end, shut_cells}
+use Rattle.abb_search.proofs.search_tree.Cited.{preorder_has_all, passes, cells_stand, told_passes}
+use Rattle.abb_search.proofs.search_tree.Cited.{aligned_start, proof_of, shut_at, shut_length}
+use Rattle.abb_search.proofs.search_tree.Cited.{shut_linked}
+use Rattle.abb_search.proofs.search_tree.Cited.{kept_is_lean}
+use Rattle.abb_search.specs.node_evaluation.Children.{claim_with}
+use Rattle.abb_search.specs.node_evaluation.Looks.{KnowsCell}
 use Rattle.abb_search.specs.declared.growing.Growing.{Growing}
 use Rattle.abb_search.specs.Growing.{IsTreeKeptFor}
 use Rattle.abb_search.specs.Closing.{EndsNode, LeavesOpen, IsSpentFor}
-use Rattle.tree_rules.specs.Proved.{IsBelowLimit}
-use Rattle.abb_search.proofs.KnownLemmas.{AreKnown, known_end, knows_tree, few_nodes}
+use Rattle.rank_check.specs.tree_rules.Proved.{IsBelowLimit}
+use Rattle.abb_search.proofs.Cited.{AreKnown, known_end, knows_tree, few_nodes}
 use Rattle.rank_search.specs.Found.{FoundAt, networks_of, undercut_by, AreBest}
 use Rattle.rank_search.specs.Naming.{Names, name_at, names_at, names_of, marks_in, IsNamedTree}
-use Rattle.rank_rules.specs.Leaf.{IsOpenLeaf}
+use Rattle.rank_check.specs.rank_rules.Leaf.{IsOpenLeaf}
 use Rattle.rank_search.specs.Told.{IsTelling, IsTellingOf, IsSpentOf}
 use Rattle.rank_search.proofs.FewLemmas.{few_with_next}
 use Rattle.rank_search.proofs.NamedLeafLemmas.{ClosesAt, Closes, leaf_passes, still_open, told_open}

@@ -1,20 +1,20 @@
 -- What is found if the search ends in this way, from its answer.
 use Rattle.std.proofs.Common.{◌≡◌, ℕ, true, false, List, refl}
-use Rattle.problem_rules.specs.Problem.{Problem}
-use Rattle.pns_rules.specs.Shape.{shape_of}
-use Rattle.pns_rules.specs.Ends.{IsSound}
-use Rattle.tree_rules.specs.Claim.{Network}
-use Rattle.tree_rules.specs.Accepted.{Tree, first_node}
-use Rattle.tree_rules.specs.Stops.{IsOpenAt}
-use Rattle.tree_rules.specs.Tail.{whole, spent, past}
-use Rattle.search_tree.specs.Growth.{EndsOpen}
-use Rattle.search_tree.specs.Cells.{place_of, cell_at}
-use Rattle.node_evaluation.specs.Evaluated.{PastPlaces}
+use Rattle.rank_check.specs.problem_rules.Problem.{Problem}
+use Rattle.rank_check.specs.pns_rules.Shape.{shape_of}
+use Rattle.rank_check.specs.pns_rules.Ends.{IsSound}
+use Rattle.rank_check.specs.tree_rules.Claim.{Network}
+use Rattle.rank_check.specs.tree_rules.Accepted.{Tree, first_node}
+use Rattle.rank_check.specs.tree_rules.Stops.{IsOpenAt}
+use Rattle.rank_check.specs.tree_rules.Tail.{whole, spent, past}
+use Rattle.abb_search.specs.search_tree.Growth.{EndsOpen}
+use Rattle.abb_search.specs.search_tree.Cells.{place_of, cell_at}
+use Rattle.abb_search.specs.node_evaluation.Evaluated.{PastPlaces}
 use Rattle.abb_search.specs.declared.growing.Growing.{Growing}
 use Rattle.abb_search.specs.declared.growing.StoppedLeaf.{StoppedLeaf}
 use Rattle.abb_search.specs.Growing.{IsStoppedAt}
-use Rattle.rank_rules.specs.Marked.{Mark, marked}
-use Rattle.rank_rules.specs.Leaf.{IsOpenLeaf}
+use Rattle.rank_check.specs.rank_rules.Marked.{Mark, marked}
+use Rattle.rank_check.specs.rank_rules.Leaf.{IsOpenLeaf}
 use Rattle.rank_search.specs.Told.{IsTelling, IsSpentTelling}
 use Rattle.rank_search.specs.Ranked.{IsRankedBy}
 use Rattle.rank_search.specs.declared.outcome.Ranked.TheVariants.{Whole, Spent, Past}

@@ -5,24 +5,22 @@ use Rattle.std.proofs.Common.{◌∙◌, subst, arith, inl, inr}
 use Rattle.std.specs.List.{slice_get}
 use Rattle.std.proofs.lemmas.Bool.{cases_eq}
 use Rattle.std.proofs.lemmas.List.{length-map}
-use Rattle.problem_rules.specs.Problem.{Problem}
-use Rattle.pns_rules.specs.Shape.{shape_of}
-use Rattle.pns_rules.specs.Nodes.{Node}
-use Rattle.tree_rules.specs.Ways.{Way}
-use Rattle.tree_rules.specs.Tree.{End, branch, leaf, Stands}
-use Rattle.tree_rules.specs.Leaf.{Leaf, Scaled, untried, IsUntried}
-use Rattle.tree_rules.specs.Claim.{CostOver}
-use Rattle.tree_rules.specs.Lean.{MayUndercut, IsNoDearer, IsLean}
-use Rattle.tree_rules.specs.Stops.{IsOpenAt, IsPending, IsNextCount, IsSpent}
-use Rattle.search_tree.specs.Growth.{EndsOpen}
-use Rattle.search_tree.specs.Cells.{Cell, place_of, cell_at, IsLinked}
-use Rattle.search_tree.specs.Fits.{Fits}
-use Rattle.search_tree.specs.Preorder.{IsPreorder, tree_of, told_end, told_at, told_tree}
-use Rattle.search_tree.proofs.CountLemmas.{preorder_has_all}
-use Rattle.search_tree.proofs.PassLemmas.{nodes_are_told, told_cells_stand, cells_stand}
-use Rattle.search_tree.proofs.PassLemmas.{aligned_start}
-use Rattle.search_tree.specs.Turns.{IsLeastOpen}
-use Rattle.search_tree.proofs.OrderLemmas.{no_dearer_self}
+use Rattle.rank_check.specs.problem_rules.Problem.{Problem}
+use Rattle.rank_check.specs.pns_rules.Shape.{shape_of}
+use Rattle.rank_check.specs.pns_rules.Nodes.{Node}
+use Rattle.rank_check.specs.tree_rules.Ways.{Way}
+use Rattle.rank_check.specs.tree_rules.Tree.{End, branch, leaf, Stands}
+use Rattle.rank_check.specs.tree_rules.Leaf.{Leaf, Scaled, untried, IsUntried}
+use Rattle.rank_check.specs.tree_rules.Claim.{CostOver}
+use Rattle.rank_check.specs.tree_rules.Lean.{MayUndercut, IsNoDearer, IsLean}
+use Rattle.rank_check.specs.tree_rules.Stops.{IsOpenAt, IsPending, IsNextCount, IsSpent}
+use Rattle.abb_search.specs.search_tree.Growth.{EndsOpen}
+use Rattle.abb_search.specs.search_tree.Cells.{Cell, place_of, cell_at, IsLinked}
+use Rattle.abb_search.specs.search_tree.Fits.{Fits}
+use Rattle.abb_search.specs.search_tree.Preorder.{IsPreorder, tree_of, told_end, told_at, told_tree}
+use Rattle.abb_search.proofs.search_tree.Cited.{preorder_has_all, nodes_are_told, told_cells_stand}
+use Rattle.abb_search.proofs.search_tree.Cited.{cells_stand, aligned_start, no_dearer_self}
+use Rattle.abb_search.specs.search_tree.Turns.{IsLeastOpen}
 use Rattle.rank_search.proofs.OrderLemmas.{stands_in}
 
 module _ {L : Type 0} (f : Leaf → L) where

@@ -1,13 +1,13 @@
 -- What a turn starts from, and how the search ends.
 use Rattle.std.proofs.Common.{◌≡◌, ℕ, ◌<◌, length, Option, Some, None, List, sym, ap, ◌∙◌, subst}
-use Rattle.problem_rules.specs.Problem.{Problem}
-use Rattle.pgraph.specs.View.{node_of}
-use Rattle.node_pool.specs.Pooled.{Pooled}
-use Rattle.tree_rules.specs.Claim.{CostOver}
-use Rattle.search_tree.specs.Growth.{EndsOpen}
-use Rattle.search_tree.specs.Cells.{Cell, place_of, cell_at}
-use Rattle.node_evaluation.specs.Evaluated.{PastPlaces}
-use Rattle.node_evaluation.specs.Looks.{IsStop}
+use Rattle.rank_check.specs.problem_rules.Problem.{Problem}
+use Rattle.rank_check.specs.pgraph.View.{node_of}
+use Rattle.abb_search.specs.node_pool.Pooled.{Pooled}
+use Rattle.rank_check.specs.tree_rules.Claim.{CostOver}
+use Rattle.abb_search.specs.search_tree.Growth.{EndsOpen}
+use Rattle.abb_search.specs.search_tree.Cells.{Cell, place_of, cell_at}
+use Rattle.abb_search.specs.node_evaluation.Evaluated.{PastPlaces}
+use Rattle.abb_search.specs.node_evaluation.Looks.{IsStop}
 use Rattle.abb_search.specs.declared.growing.Growing.{Growing}
 use Rattle.abb_search.specs.declared.growing.StoppedLeaf.{StoppedLeaf}
 use Rattle.abb_search.specs.declared.rounds.Ending.{Ending}
@@ -15,7 +15,7 @@ use Rattle.abb_search.specs.declared.rounds.Ending.TheVariants as endings
 use Rattle.abb_search.specs.Growing.{IsTreeKeptFor, IsGrowingFor, GoesOnFor, IsSame, IsSameButHand}
 use Rattle.abb_search.specs.Growing.{IsStoppedAt}
 use Rattle.abb_search.specs.Rounds.{EndsWith}
-use Rattle.abb_search.proofs.StepLemmas.{kept_but_hand}
+use Rattle.abb_search.proofs.Cited.{kept_but_hand}
 use Rattle.rank_search.specs.Found.{AreBest, undercut_by}
 use Rattle.rank_search.specs.Listed.{Listed}
 use Rattle.rank_search.specs.Turns.{IsRankTree, IsRanking, IsRankEnd, IsMore}

@@ -1,16 +1,16 @@
 -- What a search for plants that differ keeps between two turns, and how it ends.
 use Rattle.std.specs.Prelude.{◌≡◌, ℕ, ◌+◌, ◌*◌, ◌-◌, ◌<◌, ◌≤◌, true, cond, List, [], ◌∷◌, length}
 use Rattle.std.specs.Prelude.{Option, Some, None, is_some}
-use Rattle.integer_laws.specs.Range.{InRange, AllInRange}
-use Rattle.problem_rules.specs.Problem.{Problem}
-use Rattle.pgraph.specs.View.{node_of}
-use Rattle.tree_rules.specs.Claim.{claimed_cost}
-use Rattle.tree_rules.specs.Leaf.{IsBounded}
-use Rattle.tree_rules.specs.Accepted.{first_node}
-use Rattle.search_tree.specs.Cells.{Cell, place_of, cell_at}
-use Rattle.search_tree.specs.Growth.{is_open}
-use Rattle.node_evaluation.specs.Evaluated.{PastPlaces, cost_over}
-use Rattle.node_evaluation.specs.Children.{claim_with}
+use Rattle.rank_check.specs.integer_laws.Range.{InRange, AllInRange}
+use Rattle.rank_check.specs.problem_rules.Problem.{Problem}
+use Rattle.rank_check.specs.pgraph.View.{node_of}
+use Rattle.rank_check.specs.tree_rules.Claim.{claimed_cost}
+use Rattle.rank_check.specs.tree_rules.Leaf.{IsBounded}
+use Rattle.rank_check.specs.tree_rules.Accepted.{first_node}
+use Rattle.abb_search.specs.search_tree.Cells.{Cell, place_of, cell_at}
+use Rattle.abb_search.specs.search_tree.Growth.{is_open}
+use Rattle.abb_search.specs.node_evaluation.Evaluated.{PastPlaces, cost_over}
+use Rattle.abb_search.specs.node_evaluation.Children.{claim_with}
 use Rattle.abb_search.specs.declared.growing.Growing.{Growing}
 use Rattle.abb_search.specs.declared.rounds.Ending.{Ending}
 use Rattle.abb_search.specs.declared.rounds.Ending.TheVariants as endings

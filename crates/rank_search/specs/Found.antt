@@ -3,13 +3,13 @@
 use Rattle.std.specs.Prelude.{◌≡◌, ◌⊎◌, ℕ, ◌<◌, ◌≤◌, ℤ, false, List, [], ◌∷◌, length, map}
 use Rattle.std.specs.Prelude.{Option, Some}
 use Rattle.std.specs.List.{slice_get}
-use Rattle.problem_rules.specs.Problem.{Problem}
-use Rattle.tree_rules.specs.Tree.{leaf}
-use Rattle.tree_rules.specs.Claim.{Network, CostOver}
-use Rattle.tree_rules.specs.Leaf.{bounded, IsBounded}
-use Rattle.rank_rules.specs.Networks.{cost_of, last_cost, to_undercut, IsNoCheaper}
-use Rattle.search_tree.specs.Cells.{Cell, place_of, cell_at}
-use Rattle.node_evaluation.specs.Looks.{is_charged, IsFoundAt}
+use Rattle.rank_check.specs.problem_rules.Problem.{Problem}
+use Rattle.rank_check.specs.tree_rules.Tree.{leaf}
+use Rattle.rank_check.specs.tree_rules.Claim.{Network, CostOver}
+use Rattle.rank_check.specs.tree_rules.Leaf.{bounded, IsBounded}
+use Rattle.rank_check.specs.rank_rules.Networks.{cost_of, last_cost, to_undercut, IsNoCheaper}
+use Rattle.abb_search.specs.search_tree.Cells.{Cell, place_of, cell_at}
+use Rattle.abb_search.specs.node_evaluation.Looks.{is_charged, IsFoundAt}
 
 -- a network, and the number of the leaf at which it was found
 pub record FoundAt : Type 0 where

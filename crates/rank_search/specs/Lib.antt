@@ -10,3 +10,4 @@ pub mod Ranked
 pub mod Telling
 pub mod Told
 pub mod Turns
+pub use Rattle.abb_search.specs as abb_search

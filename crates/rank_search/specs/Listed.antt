@@ -2,8 +2,8 @@
 -- becomes of it if one more is found.
 use Rattle.std.specs.Prelude.{◌≡◌, ℕ, suc, ◌≤◌, pos, ◌≤ℤ◌, ◌<ℤ◌, ◌*ℤ◌, List, [], ◌∷◌, ◌++◌, length}
 use Rattle.std.specs.Prelude.{take, Option, Some, None}
-use Rattle.tree_rules.specs.Claim.{Network}
-use Rattle.rank_rules.specs.Networks.{IsNoCheaper}
+use Rattle.rank_check.specs.tree_rules.Claim.{Network}
+use Rattle.rank_check.specs.rank_rules.Networks.{IsNoCheaper}
 use Rattle.rank_search.specs.Found.{FoundAt, AreRising}
 
 -- how many are asked for, and those of the list

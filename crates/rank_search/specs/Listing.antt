@@ -4,18 +4,18 @@
 use Rattle.std.specs.Prelude.{◌≡◌, ℕ, ◌<◌, ◌++◌, ℤ, pos, ◌≤ℤ◌, false, List, [], ◌∷◌, length}
 use Rattle.std.specs.Prelude.{get_or, take}
 use Rattle.std.specs.Prelude.{Option, Some, None}
-use Rattle.number_sets.specs.Sets.{has, IsWithin}
-use Rattle.problem_rules.specs.Problem.{Problem}
-use Rattle.pns_rules.specs.Nodes.{Node}
-use Rattle.tree_rules.specs.Tree.{leaf}
-use Rattle.tree_rules.specs.Claim.{Network, CostOver, IsFeasible}
-use Rattle.tree_rules.specs.Costs.{IsNoMore}
-use Rattle.tree_rules.specs.Leaf.{bounded, IsBounded}
-use Rattle.exact_numbers.specs.declared.number.Mixed.{Mixed}
-use Rattle.exact_numbers.specs.Number.{denominator}
-use Rattle.search_tree.specs.Cells.{Cell, place_of, cell_at}
-use Rattle.node_evaluation.specs.Evaluated.{cost_over, cost_in}
-use Rattle.node_evaluation.specs.Looks.{is_bounded, is_charged}
+use Rattle.rank_check.specs.number_sets.Sets.{has, IsWithin}
+use Rattle.rank_check.specs.problem_rules.Problem.{Problem}
+use Rattle.rank_check.specs.pns_rules.Nodes.{Node}
+use Rattle.rank_check.specs.tree_rules.Tree.{leaf}
+use Rattle.rank_check.specs.tree_rules.Claim.{Network, CostOver, IsFeasible}
+use Rattle.rank_check.specs.tree_rules.Costs.{IsNoMore}
+use Rattle.rank_check.specs.tree_rules.Leaf.{bounded, IsBounded}
+use Rattle.rank_check.specs.exact_numbers.declared.number.Mixed.{Mixed}
+use Rattle.rank_check.specs.exact_numbers.Number.{denominator}
+use Rattle.abb_search.specs.search_tree.Cells.{Cell, place_of, cell_at}
+use Rattle.abb_search.specs.node_evaluation.Evaluated.{cost_over, cost_in}
+use Rattle.abb_search.specs.node_evaluation.Looks.{is_bounded, is_charged}
 use Rattle.rank_search.specs.Found.{FoundAt, undercut_by}
 use Rattle.rank_search.specs.Plants.{IsInList}
 

@@ -1,8 +1,8 @@
 -- Which plant a leaf names: the first that each structure of the leaf contains, and that costs no
 -- more than what the multipliers of the leaf are known to reach.
 use Rattle.std.specs.Prelude.{◌≡◌, ℕ, ◌+◌, ◌<◌, List, length, Option, Some, None}
-use Rattle.exact_numbers.specs.declared.number.Mixed.{Mixed}
-use Rattle.search_tree.specs.Cells.{Cell, cell_at}
+use Rattle.rank_check.specs.exact_numbers.declared.number.Mixed.{Mixed}
+use Rattle.abb_search.specs.search_tree.Cells.{Cell, cell_at}
 use Rattle.rank_search.specs.Found.{FoundAt}
 use Rattle.rank_search.specs.Naming.{Names, name_at}
 use Rattle.rank_search.specs.Plants.{IsFirstInside, NoneInside}

@@ -3,17 +3,17 @@
 use Rattle.std.specs.Prelude.{◌≡◌, ℕ, suc, ◌<◌, List, [], ◌∷◌, ◌++◌, map, length, slice_set}
 use Rattle.std.specs.Prelude.{replicate, get_or, Option, Some, None}
 use Rattle.std.specs.List.{slice_get}
-use Rattle.tree_rules.specs.Tree.{End, branch, leaf, TreeNode}
-use Rattle.tree_rules.specs.Leaf.{Leaf, dead, clash, refuted, bounded, charged, untried}
-use Rattle.tree_rules.specs.Accepted.{Tree}
-use Rattle.rank_rules.specs.declared.naming.Naming.{Naming}
-use Rattle.rank_rules.specs.Marked.{Mark}
+use Rattle.rank_check.specs.tree_rules.Tree.{End, branch, leaf, TreeNode}
+use Rattle.rank_check.specs.tree_rules.Leaf.{Leaf, dead, clash, refuted, bounded, charged, untried}
+use Rattle.rank_check.specs.tree_rules.Accepted.{Tree}
+use Rattle.rank_check.specs.rank_rules.declared.naming.Naming.{Naming}
+use Rattle.rank_check.specs.rank_rules.Marked.{Mark}
 use Rattle.rank_check.specs.declared.mark.Mark as marks
 use Rattle.rank_check.specs.View.{mark_of}
-use Rattle.search_tree.specs.declared.shut.Shut.{Shut}
-use Rattle.search_tree.specs.Cells.{Cell}
-use Rattle.search_tree.specs.Preorder.{IsPreorder, tree_of}
-use Rattle.search_tree.specs.Shut.{shut_cells}
+use Rattle.abb_search.specs.search_tree.declared.shut.Shut.{Shut}
+use Rattle.abb_search.specs.search_tree.Cells.{Cell}
+use Rattle.abb_search.specs.search_tree.Preorder.{IsPreorder, tree_of}
+use Rattle.abb_search.specs.search_tree.Shut.{shut_cells}
 use Rattle.rank_search.specs.Found.{FoundAt}
 
 -- ---- names

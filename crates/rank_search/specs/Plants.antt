@@ -3,13 +3,13 @@
 -- no more.
 use Rattle.std.specs.Prelude.{◌≡◌, ◌⊎◌, ℕ, pos, ◌≤ℤ◌, true, List, [], ◌∷◌, Option, Some}
 use Rattle.std.specs.List.{slice_get}
-use Rattle.number_sets.specs.Sets.{has, IsWithin}
-use Rattle.problem_rules.specs.Each.{Each}
-use Rattle.tree_rules.specs.Claim.{Network, IsSized}
-use Rattle.tree_rules.specs.Costs.{IsNoMore}
-use Rattle.exact_numbers.specs.declared.number.Mixed.{Mixed}
-use Rattle.node_evaluation.specs.Evaluated.{cost_over, cost_in}
-use Rattle.rank_rules.specs.Networks.{Repeats, AreAlike}
+use Rattle.rank_check.specs.number_sets.Sets.{has, IsWithin}
+use Rattle.rank_check.specs.problem_rules.Each.{Each}
+use Rattle.rank_check.specs.tree_rules.Claim.{Network, IsSized}
+use Rattle.rank_check.specs.tree_rules.Costs.{IsNoMore}
+use Rattle.rank_check.specs.exact_numbers.declared.number.Mixed.{Mixed}
+use Rattle.abb_search.specs.node_evaluation.Evaluated.{cost_over, cost_in}
+use Rattle.rank_check.specs.rank_rules.Networks.{Repeats, AreAlike}
 use Rattle.rank_search.specs.Found.{FoundAt, networks_of, AreRising}
 
 -- ---- the list

@@ -1,16 +1,16 @@
 -- What a search for the best networks finds: a whole ranking, or one so far with its stop.
 use Rattle.std.specs.Prelude.{◌≡◌, ℕ, Bool, true, false, List}
-use Rattle.problem_rules.specs.Problem.{Problem}
-use Rattle.flow_rules.specs.declared.place.Column.{Column}
-use Rattle.flow_rules.specs.declared.place.Place.{Place}
-use Rattle.tree_rules.specs.Accepted.{first_node}
-use Rattle.tree_rules.specs.Stops.{IsPast}
-use Rattle.tree_rules.specs.Tail.{whole, spent, past}
-use Rattle.node_evaluation.specs.Evaluated.{PastPlaces}
-use Rattle.tree_rules.specs.Past.{IsPastAt}
-use Rattle.rank_rules.specs.Marked.{marked}
-use Rattle.rank_rules.specs.Text.{Text}
-use Rattle.rank_rules.specs.Leaf.{IsOpenLeaf}
+use Rattle.rank_check.specs.problem_rules.Problem.{Problem}
+use Rattle.rank_check.specs.flow_rules.declared.place.Column.{Column}
+use Rattle.rank_check.specs.flow_rules.declared.place.Place.{Place}
+use Rattle.rank_check.specs.tree_rules.Accepted.{first_node}
+use Rattle.rank_check.specs.tree_rules.Stops.{IsPast}
+use Rattle.rank_check.specs.tree_rules.Tail.{whole, spent, past}
+use Rattle.abb_search.specs.node_evaluation.Evaluated.{PastPlaces}
+use Rattle.rank_check.specs.tree_rules.Past.{IsPastAt}
+use Rattle.rank_check.specs.rank_rules.Marked.{marked}
+use Rattle.rank_check.specs.rank_rules.Text.{Text}
+use Rattle.rank_check.specs.rank_rules.Leaf.{IsOpenLeaf}
 use Rattle.rank_search.specs.Told.{IsTelling, IsSpentTelling}
 use Rattle.rank_search.specs.declared.outcome.Ranked.{Ranked}
 use Rattle.rank_search.specs.declared.outcome.Ranked.TheVariants.{Whole, Spent, Past, Memory}

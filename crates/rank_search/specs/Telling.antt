@@ -1,12 +1,12 @@
 -- The tree of a search as a ranked one, whose bounded leaves name plants that their structures
 -- contain.
 use Rattle.std.specs.Prelude.{ℕ, List, Option}
-use Rattle.tree_rules.specs.Accepted.{Tree}
-use Rattle.exact_numbers.specs.declared.number.Mixed.{Mixed}
-use Rattle.rank_rules.specs.Marked.{Mark}
-use Rattle.rank_rules.specs.declared.naming.Naming.TheVariants.{Within}
-use Rattle.search_tree.specs.declared.shut.Shut.{Shut}
-use Rattle.search_tree.specs.Cells.{Cell}
+use Rattle.rank_check.specs.tree_rules.Accepted.{Tree}
+use Rattle.rank_check.specs.exact_numbers.declared.number.Mixed.{Mixed}
+use Rattle.rank_check.specs.rank_rules.Marked.{Mark}
+use Rattle.rank_check.specs.rank_rules.declared.naming.Naming.TheVariants.{Within}
+use Rattle.abb_search.specs.search_tree.declared.shut.Shut.{Shut}
+use Rattle.abb_search.specs.search_tree.Cells.{Cell}
 use Rattle.rank_search.specs.Found.{FoundAt}
 use Rattle.rank_search.specs.Naming.{Names, IsNamedTree}
 use Rattle.rank_search.specs.Names.{AreNamesFor}

@@ -1,19 +1,19 @@
 -- The answer of a search for the best networks: the networks with a ranked tree, whole or so far.
 use Rattle.std.specs.Prelude.{ℕ, ◌-◌, ◌^◌, ◌<◌, Bool, false, List, length, Option}
-use Rattle.problem_rules.specs.Each.{Each}
-use Rattle.problem_rules.specs.Problem.{Problem}
-use Rattle.tree_rules.specs.Claim.{Network, CostOver}
-use Rattle.tree_rules.specs.Lean.{IsLean}
-use Rattle.tree_rules.specs.Stops.{IsSpent}
-use Rattle.tree_rules.specs.Accepted.{Tree, first_node}
-use Rattle.rank_rules.specs.Networks.{to_undercut}
-use Rattle.rank_rules.specs.Ranked.{Proves}
-use Rattle.tree_rules.specs.Known.{KnowsTree}
-use Rattle.rank_rules.specs.Marked.{Mark, marked}
-use Rattle.rank_rules.specs.Text.{IsCounted}
+use Rattle.rank_check.specs.problem_rules.Each.{Each}
+use Rattle.rank_check.specs.problem_rules.Problem.{Problem}
+use Rattle.rank_check.specs.tree_rules.Claim.{Network, CostOver}
+use Rattle.rank_check.specs.tree_rules.Lean.{IsLean}
+use Rattle.rank_check.specs.tree_rules.Stops.{IsSpent}
+use Rattle.rank_check.specs.tree_rules.Accepted.{Tree, first_node}
+use Rattle.rank_check.specs.rank_rules.Networks.{to_undercut}
+use Rattle.rank_check.specs.rank_rules.Ranked.{Proves}
+use Rattle.rank_check.specs.tree_rules.Known.{KnowsTree}
+use Rattle.rank_check.specs.rank_rules.Marked.{Mark, marked}
+use Rattle.rank_check.specs.rank_rules.Text.{IsCounted}
 use Rattle.rank_check.specs.Known.{KnowsNetwork}
-use Rattle.tree_rules.specs.Proved.{IsBelowLimit}
-use Rattle.rank_rules.specs.Leaf.{IsOpenLeaf}
+use Rattle.rank_check.specs.tree_rules.Proved.{IsBelowLimit}
+use Rattle.rank_check.specs.rank_rules.Leaf.{IsOpenLeaf}
 
 -- So many networks were asked for, and these with the tree and its marks are a ranked tree, whole
 -- or partial, and lean for what is claimed. All numbers are the problem's. A list of alternatives

@@ -1,9 +1,9 @@
 -- What a search for the best networks keeps between two turns, and how it ends.
 use Rattle.std.specs.Prelude.{◌≡◌, ℕ, ◌<◌, length, Option, Some, None}
-use Rattle.problem_rules.specs.Problem.{Problem}
-use Rattle.pgraph.specs.View.{node_of}
-use Rattle.tree_rules.specs.Accepted.{first_node}
-use Rattle.node_evaluation.specs.Evaluated.{PastPlaces}
+use Rattle.rank_check.specs.problem_rules.Problem.{Problem}
+use Rattle.rank_check.specs.pgraph.View.{node_of}
+use Rattle.rank_check.specs.tree_rules.Accepted.{first_node}
+use Rattle.abb_search.specs.node_evaluation.Evaluated.{PastPlaces}
 use Rattle.abb_search.specs.declared.growing.Growing.{Growing}
 use Rattle.abb_search.specs.declared.rounds.Ending.{Ending}
 use Rattle.abb_search.specs.Growing.{IsTreeKeptFor, GoesOnFor}

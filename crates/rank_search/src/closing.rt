@@ -1,10 +1,10 @@
 //! Leaves that a plant shuts: one that each of their structures contains, or the last one that is
 //! listed.
 ghost use Rattle.std.specs.Prelude.{◌≡◌, ◌≤◌, Option, None, Some, true, IfOk, IfSome, IsTrue};
-ghost use Rattle.link_lists.specs.Lists.{first};
-ghost use Rattle.tree_rules.specs.Costs.{HasFallen};
-ghost use Rattle.node_evaluation.specs.Evaluated.{cost_in};
-ghost use Rattle.node_evaluation.specs.Looks.{cost_of};
+ghost use Rattle.abb_search.specs.link_lists.Lists.{first};
+ghost use Rattle.rank_check.specs.tree_rules.Costs.{HasFallen};
+ghost use Rattle.abb_search.specs.node_evaluation.Evaluated.{cost_in};
+ghost use Rattle.abb_search.specs.node_evaluation.Looks.{cost_of};
 ghost use Rattle.abb_search.specs.Growing.{IsGrowingFor};
 ghost use Rattle.abb_search.specs.Closing.{ShutAll};
 ghost use Rattle.rank_search.specs.Listing.{goal_of};
@@ -12,12 +12,11 @@ ghost use Rattle.rank_search.specs.DistinctTurns.{IsSearching, IsClosed, GoesOn,
 
 use crate::listing::Listing;
 use crate::plants::{Plants, value_of};
-use abb_search::{Closing, Growing, Shutting, close_all, node_at, reaches, shut_at, shut_leaf};
-use branch_tree::{End, Network, Scaled};
-use exact_numbers::Mixed;
-use node_evaluation::{Evaluator, Workspace, costs_no_more};
-use pgraph::Site;
-use search_tree::Shut;
+use abb_search::{
+    Closing, Evaluator, Growing, Shut, Shutting, Workspace, close_all, costs_no_more, node_at,
+    reaches, shut_at, shut_leaf,
+};
+use rank_check::{End, Mixed, Network, Scaled, Site};
 use std::alloc::AllocError;
 
 /// Multipliers that shut a leaf, and a cost that they reach.

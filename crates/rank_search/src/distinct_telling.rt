@@ -1,14 +1,14 @@
 //! The answer of a search: its plants, with its tree as a ranked one.
 ghost use Rattle.std.specs.Prelude.{◌≡◌, ◌<◌, ◌≤◌, ◌^◌, ℕ, true, false, [], map, length, take};
 ghost use Rattle.std.specs.Prelude.{slice_index_or, None, IfOk};
-ghost use Rattle.tree_rules.specs.Accepted.{first_node};
-ghost use Rattle.tree_rules.specs.Stops.{IsOpenAt};
-ghost use Rattle.pgraph.specs.View.{node_of};
-ghost use Rattle.rank_rules.specs.Marked.{marked};
-ghost use Rattle.rank_rules.specs.Leaf.{IsOpenLeaf};
+ghost use Rattle.rank_check.specs.tree_rules.Accepted.{first_node};
+ghost use Rattle.rank_check.specs.tree_rules.Stops.{IsOpenAt};
+ghost use Rattle.rank_check.specs.pgraph.View.{node_of};
+ghost use Rattle.rank_check.specs.rank_rules.Marked.{marked};
+ghost use Rattle.rank_check.specs.rank_rules.Leaf.{IsOpenLeaf};
 ghost use Rattle.rank_check.specs.View.{mark_of};
-ghost use Rattle.search_tree.specs.Cells.{place_of, cell_at, IsLinked};
-ghost use Rattle.search_tree.specs.Growth.{EndsOpen};
+ghost use Rattle.abb_search.specs.search_tree.Cells.{place_of, cell_at, IsLinked};
+ghost use Rattle.abb_search.specs.search_tree.Growth.{EndsOpen};
 ghost use Rattle.abb_search.specs.Closing.{ShutAll, EndSome, LeavesOpen, IsSpentFor};
 ghost use Rattle.abb_search.specs.Growing.{IsTreeKeptFor};
 ghost use Rattle.rank_search.specs.Found.{networks_of};
@@ -19,11 +19,9 @@ ghost use Rattle.rank_search.specs.Telling.{IsNamedBy};
 
 use crate::listing::Listing;
 use crate::names::names_for;
-use abb_search::Growing;
-use pgraph::Site;
-use rank_rules::Naming;
 use crate::{Told, into_networks, named_tree};
-use search_tree::Shut;
+use abb_search::{Growing, Shut};
+use rank_check::{Naming, Site};
 use std::alloc::{AllocError, Global};
 
 /// The plants with the tree in which the leaves name them, and the place of a leaf in it.

@@ -3,14 +3,11 @@ ghost use Rattle.std.specs.Prelude.{IfOk};
 ghost use Rattle.rank_search.specs.DistinctListed.{IsListedBy};
 ghost use Rattle.rank_search.specs.DistinctTurns.{IsListEnd};
 
-use crate::listing::Listing;
 use crate::distinct_telling::{tell_stopped, tell_whole};
-use abb_search::{Ending, Growing};
-use branch_tree::Tail;
-use node_evaluation::Evaluator;
-use pgraph::Site;
+use crate::listing::Listing;
 use crate::{Ranked, text_of};
-use rank_check::Asked;
+use abb_search::{Ending, Evaluator, Growing};
+use rank_check::{Asked, Site, Tail};
 use std::alloc::{AllocError, Global};
 
 /// What is found if the search ends in this way.

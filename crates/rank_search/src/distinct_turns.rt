@@ -1,19 +1,18 @@
 //! The turns of a search for plants that differ, and the loop over them.
 ghost use Rattle.std.specs.Prelude.{◌≡◌, IfOk, OnOk, None, true};
-ghost use Rattle.pns_rules.specs.Shape.{shape_of};
-ghost use Rattle.neutral_extension.specs.Candidates.{AreMakersOf};
+ghost use Rattle.rank_check.specs.pns_rules.Shape.{shape_of};
+ghost use Rattle.abb_search.specs.neutral_extension.Candidates.{AreMakersOf};
 ghost use Rattle.abb_search.specs.Rounds.{IsNextLeaf, FitsBudget, IsNext};
-ghost use Rattle.rank_search.specs.DistinctTurns.{IsSearching, IsListEnd, GoesOn, TurnHolds, left_over};
+ghost use Rattle.rank_search.specs.DistinctTurns.{IsSearching, IsListEnd, GoesOn, TurnHolds};
+ghost use Rattle.rank_search.specs.DistinctTurns.{left_over};
 
 use crate::closing::{close_least, shut_by_last};
 use crate::listing::{Listing, take_networks};
 use abb_search::{
-    Ending, Goal, Growing, Next, branch_leaf, choice_at, next_leaf, node_at, report_progress,
-    take_stop,
+    Ending, Evaluator, Goal, Growing, Next, Watch, Workspace, branch_leaf, choice_at, next_leaf,
+    node_at, report_progress, take_stop,
 };
-use node_evaluation::{Evaluator, Workspace};
-use pgraph::Site;
-use pns_io::Watch;
+use rank_check::Site;
 use std::alloc::{AllocError, Global};
 
 /// Branches the leaf that comes next and takes what is found at its children.

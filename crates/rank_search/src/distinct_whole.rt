@@ -1,21 +1,18 @@
 //! The whole search, over any evaluator of nodes.
 ghost use Rattle.std.specs.Prelude.{◌≡◌, ◌≤◌, IfOk};
-ghost use Rattle.pns_rules.specs.Shape.{shape_of};
-ghost use Rattle.neutral_extension.specs.Candidates.{AreMakersOf};
+ghost use Rattle.rank_check.specs.pns_rules.Shape.{shape_of};
+ghost use Rattle.abb_search.specs.neutral_extension.Candidates.{AreMakersOf};
 ghost use Rattle.rank_search.specs.DistinctListed.{IsListedBy};
 ghost use Rattle.rank_search.specs.DistinctTurns.{IsSearching};
 
-use crate::listing::{Listing, take_networks};
-use crate::plants::Plants;
+use crate::Ranked;
 use crate::distinct_told::listed_by;
 use crate::distinct_turns::run;
-use abb_search::{Growing, look_at_root};
-use node_evaluation::{Evaluator, Workspace, copy_of_network};
-use pgraph::Site;
-use pns_io::{Effort, Watch};
-use crate::Ranked;
+use crate::listing::{Listing, take_networks};
+use crate::plants::Plants;
+use abb_search::{Effort, Evaluator, Growing, Watch, Workspace, copy_of_network, look_at_root};
+use rank_check::{Node, Site, UnitSet};
 use std::alloc::{AllocError, Global};
-use unit_sets::{Node, UnitSet};
 
 /// A search before its first turn.
 #[derive(Drop)]

@@ -1,13 +1,13 @@
 //! The networks that were found, best first.
 ghost use Rattle.std.specs.Prelude.{◌≡◌, ◌≤◌, ◌+◌, ◌<◌, ◌^◌, [], length, take, drop, OnOk, OnErr};
 ghost use Rattle.std.specs.Prelude.{option_copied};
-ghost use Rattle.node_evaluation.specs.Looks.{cost_of};
+ghost use Rattle.abb_search.specs.node_evaluation.Looks.{cost_of};
 ghost use Rattle.rank_search.specs.Found.{undercut_by, AreRising};
 ghost use Rattle.rank_search.specs.Listed.{IsListed, IsAdded, IsSomeAdded, AreAdded, IsFrontAdded};
 ghost use Rattle.rank_search.specs.Listed.{AreScaled, AreNoDearer, AreDearer};
 
-use branch_tree::Network;
-use node_evaluation::costs_no_more;
+use abb_search::costs_no_more;
+use rank_check::Network;
 use std::alloc::{AllocError, Global};
 use std::marker::Model;
 

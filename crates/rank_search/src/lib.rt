@@ -44,6 +44,10 @@ mod told;
 mod turns;
 mod whole;
 
+pub use abb_search::{
+    Effort, Found, NoWatch, Outputs, SearchWith, Shelf, Sink, Turn, Watch, look_at_root, run,
+    search_with,
+};
 pub use distinct_whole::alternatives_with;
 pub use found::{FoundAt, place_for};
 pub use naming::{NamedTree, named_tree};

@@ -4,8 +4,7 @@ ghost use Rattle.rank_search.specs.Plants.{AreAdded};
 ghost use Rattle.rank_search.specs.Listing.{IsValueFor, IsWithValues};
 
 use crate::plants::{Plants, value_of};
-use branch_tree::Network;
-use exact_numbers::Mixed;
+use rank_check::{Mixed, Network};
 use std::alloc::AllocError;
 
 /// How many plants are asked for, those that were found, and for each leaf that is bounded by

@@ -2,14 +2,11 @@
 ghost use Rattle.std.specs.Prelude.{◌≡◌, ◌<◌, ◌^◌, IfOk, length};
 ghost use Rattle.rank_search.specs.Names.{IsNameFor, AreNamesFor};
 
-use crate::plants::first_inside;
-use abb_search::node_at;
-use exact_numbers::Mixed;
-use node_pool::Pool;
 use crate::FoundAt;
-use search_tree::Cell;
+use crate::plants::first_inside;
+use abb_search::{Cell, Pool, node_at};
+use rank_check::{Mixed, UnitSet};
 use std::alloc::{AllocError, Global};
-use unit_sets::UnitSet;
 
 /// The number, counted from 1, of the first plant whose units are within these, and that costs no
 /// more than the value, if there is one.

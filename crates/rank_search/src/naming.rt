@@ -1,20 +1,17 @@
 //! Leaves that name networks.
 ghost use Rattle.std.specs.Prelude.{◌≡◌, ◌<◌, ◌^◌, ◌++◌, ◌∷◌, [], map, length, IfOk, OnOk};
-ghost use Rattle.problem_rules.specs.Each.{Each};
-ghost use Rattle.tree_rules.specs.Claim.{IsSized};
-ghost use Rattle.tree_rules.specs.Tree.{IsTree};
+ghost use Rattle.rank_check.specs.problem_rules.Each.{Each};
+ghost use Rattle.rank_check.specs.tree_rules.Claim.{IsSized};
+ghost use Rattle.rank_check.specs.tree_rules.Tree.{IsTree};
 ghost use Rattle.rank_check.specs.View.{mark_of};
-ghost use Rattle.search_tree.specs.Cells.{IsLinked, cell_at};
+ghost use Rattle.abb_search.specs.search_tree.Cells.{IsLinked, cell_at};
 ghost use Rattle.rank_search.specs.Found.{networks_of};
 ghost use Rattle.rank_search.specs.Naming.{AreWithin, IsNamedTree, names_of, name_at, names_at};
 ghost use Rattle.rank_search.specs.Naming.{opened, opened_node, marks_in, marks_at, marks_of};
 
 use crate::found::FoundAt;
-use branch_tree::{End, Tree, TreeNode};
-use node_pool::Pool;
-use rank_rules::Naming;
-use rank_check::{Mark, Name};
-use search_tree::{Cell, Shut, nodes_in_preorder};
+use abb_search::{Cell, Pool, Shut, nodes_in_preorder};
+use rank_check::{End, Mark, Name, Naming, Tree, TreeNode};
 use std::alloc::{AllocError, Global};
 use std::mem;
 
@@ -122,7 +119,7 @@ pub fn named_tree(
         (λ t. IsNamedTree pool.now.payloads way names.now proofs.now leaf t.tree
         (map mark_of t.marks.items) t.place) }
 {
-    search_tree::preorder_is_tree();
+    abb_search::preorder_is_tree();
     let preorder = nodes_in_preorder(alloc, pool, proofs, leaf)?;
     let mut told = preorder.nodes;
     let marks = take_marks(alloc, &mut told, &preorder.order, names, way)?;

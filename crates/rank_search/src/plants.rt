@@ -1,21 +1,18 @@
 //! The plants that were found and differ, the cheapest first.
 ghost use Rattle.std.specs.Prelude.{◌≡◌, ◌≤◌, ◌<◌, ◌+◌, ◌↔◌, ◌^◌, [], ◌∷◌, IsTrue, MatchBool, OnOk};
 ghost use Rattle.std.specs.Prelude.{IfSome, IfNone, length, take, option_copied};
-ghost use Rattle.rank_rules.specs.Networks.{Repeats};
-ghost use Rattle.node_evaluation.specs.Evaluated.{cost_over, cost_in};
-ghost use Rattle.node_evaluation.specs.Looks.{cost_of};
+ghost use Rattle.rank_check.specs.rank_rules.Networks.{Repeats};
+ghost use Rattle.abb_search.specs.node_evaluation.Evaluated.{cost_over, cost_in};
+ghost use Rattle.abb_search.specs.node_evaluation.Looks.{cost_of};
 ghost use Rattle.rank_search.specs.Found.{undercut_by};
 ghost use Rattle.rank_search.specs.Plants.{IsInside, IsFirstInside, NoneInside, IsAdded};
 ghost use Rattle.rank_search.specs.Plants.{AreAdded, AreDistinct, IsInList};
 
-use abb_search::reaches;
-use branch_tree::Network;
-use exact_numbers::Mixed;
-use node_evaluation::costs_no_more;
 use crate::{FoundAt, place_for};
+use abb_search::{costs_no_more, reaches};
+use rank_check::{Mixed, Network, UnitSet};
 use std::alloc::{AllocError, Global};
 use std::marker::Model;
-use unit_sets::UnitSet;
 
 /// The plants that were found, the cheapest first. None contains the units of another that costs no
 /// more.

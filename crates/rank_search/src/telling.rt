@@ -1,31 +1,27 @@
 //! The answer of a search: its networks, with its tree as a ranked one.
 ghost use Rattle.std.specs.Prelude.{◌≡◌, ◌<◌, ◌≤◌, ◌^◌, ℕ, true, false, [], map, length};
 ghost use Rattle.std.specs.Prelude.{slice_index_or, None, IfOk};
-ghost use Rattle.problem_rules.specs.Each.{Each};
-ghost use Rattle.tree_rules.specs.Claim.{IsSized};
-ghost use Rattle.tree_rules.specs.Accepted.{first_node};
-ghost use Rattle.tree_rules.specs.Stops.{IsOpenAt};
-ghost use Rattle.pgraph.specs.View.{node_of};
-ghost use Rattle.rank_rules.specs.Marked.{marked};
+ghost use Rattle.rank_check.specs.problem_rules.Each.{Each};
+ghost use Rattle.rank_check.specs.tree_rules.Claim.{IsSized};
+ghost use Rattle.rank_check.specs.tree_rules.Accepted.{first_node};
+ghost use Rattle.rank_check.specs.tree_rules.Stops.{IsOpenAt};
+ghost use Rattle.rank_check.specs.pgraph.View.{node_of};
+ghost use Rattle.rank_check.specs.rank_rules.Marked.{marked};
 ghost use Rattle.rank_check.specs.View.{mark_of};
-ghost use Rattle.search_tree.specs.Cells.{place_of, cell_at, IsLinked};
-ghost use Rattle.search_tree.specs.Growth.{EndsOpen};
+ghost use Rattle.abb_search.specs.search_tree.Cells.{place_of, cell_at, IsLinked};
+ghost use Rattle.abb_search.specs.search_tree.Growth.{EndsOpen};
 ghost use Rattle.abb_search.specs.Closing.{ShutAll, EndSome, LeavesOpen, IsSpentFor};
 ghost use Rattle.abb_search.specs.Growing.{IsTreeKeptFor};
 ghost use Rattle.rank_search.specs.Found.{AreBest, networks_of, undercut_by};
 ghost use Rattle.rank_search.specs.Naming.{AreWithin, IsNamedTree, names_of};
-ghost use Rattle.rank_rules.specs.declared.naming.Naming.TheVariants.{Only};
-ghost use Rattle.rank_rules.specs.Leaf.{IsOpenLeaf};
+ghost use Rattle.rank_check.specs.rank_rules.declared.naming.Naming.TheVariants.{Only};
+ghost use Rattle.rank_check.specs.rank_rules.Leaf.{IsOpenLeaf};
 ghost use Rattle.rank_search.specs.Told.{IsTelling, IsSpentTelling};
 
 use crate::found::{FoundAt, FoundNetworks};
 use crate::naming::{named_tree, names_of};
-use abb_search::Growing;
-use branch_tree::{Network, Tree};
-use pgraph::Site;
-use rank_rules::Naming;
-use rank_check::Mark;
-use search_tree::Shut;
+use abb_search::{Growing, Shut};
+use rank_check::{Mark, Naming, Network, Site, Tree};
 use std::alloc::{AllocError, Global};
 
 /// The networks, best first, the tree with the marks of its open leaves in preorder, and the place

@@ -1,19 +1,16 @@
 //! The answer of a search that has ended, as a text.
 ghost use Rattle.std.specs.Prelude.{◌≡◌, false, IfOk, map};
-ghost use Rattle.branch_tree.specs.View.{tail_of};
+ghost use Rattle.rank_check.specs.branch_tree.View.{tail_of};
 ghost use Rattle.rank_check.specs.View.{mark_of};
-ghost use Rattle.rank_rules.specs.Text.{IsCounted};
+ghost use Rattle.rank_check.specs.rank_rules.Text.{IsCounted};
 ghost use Rattle.rank_search.specs.Ranked.{IsRankedBy};
 ghost use Rattle.rank_search.specs.Turns.{IsRankEnd};
 
 use crate::found::FoundNetworks;
 use crate::outcome::Ranked;
 use crate::telling::{Told, tell_stopped, tell_whole};
-use abb_search::{Ending, Growing};
-use branch_tree::Tail;
-use node_evaluation::Evaluator;
-use pgraph::Site;
-use rank_check::{Asked, RankText};
+use abb_search::{Ending, Evaluator, Growing};
+use rank_check::{Asked, RankText, Site, Tail};
 use std::alloc::{AllocError, Global};
 
 /// The answer, with the place at which the search stopped.

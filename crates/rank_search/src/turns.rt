@@ -1,19 +1,17 @@
 //! The turns of a search for the best networks, and the loop over them.
 ghost use Rattle.std.specs.Prelude.{◌≡◌, IfOk, OnOk, None, length};
-ghost use Rattle.pns_rules.specs.Shape.{shape_of};
-ghost use Rattle.neutral_extension.specs.Candidates.{AreMakersOf};
+ghost use Rattle.rank_check.specs.pns_rules.Shape.{shape_of};
+ghost use Rattle.abb_search.specs.neutral_extension.Candidates.{AreMakersOf};
 ghost use Rattle.abb_search.specs.Rounds.{IsNextLeaf, FitsBudget};
 ghost use Rattle.rank_search.specs.Found.{undercut_by};
 ghost use Rattle.rank_search.specs.Turns.{IsRanking, IsRankEnd, IsMore, TurnHolds};
 
 use crate::found::FoundNetworks;
 use abb_search::{
-    Ending, Goal, Growing, Next, branch_leaf, choice_at, next_leaf, node_at, report_progress,
-    take_stop,
+    Ending, Evaluator, Goal, Growing, Next, Watch, Workspace, branch_leaf, choice_at, next_leaf,
+    node_at, report_progress, take_stop,
 };
-use node_evaluation::{Evaluator, Workspace};
-use pgraph::Site;
-use pns_io::Watch;
+use rank_check::Site;
 use std::alloc::{AllocError, Global};
 
 /// Branches the leaf that comes next and adds what is found at its children.

@@ -1,7 +1,7 @@
 //! The whole search, over any evaluator of nodes.
 ghost use Rattle.std.specs.Prelude.{◌≡◌, ◌≤◌, IfOk};
-ghost use Rattle.pns_rules.specs.Shape.{shape_of};
-ghost use Rattle.neutral_extension.specs.Candidates.{AreMakersOf};
+ghost use Rattle.rank_check.specs.pns_rules.Shape.{shape_of};
+ghost use Rattle.abb_search.specs.neutral_extension.Candidates.{AreMakersOf};
 ghost use Rattle.rank_search.specs.Ranked.{IsRankedBy};
 ghost use Rattle.rank_search.specs.Turns.{IsRanking};
 
@@ -9,12 +9,9 @@ use crate::found::FoundNetworks;
 use crate::outcome::Ranked;
 use crate::told::ranked_by;
 use crate::turns::run;
-use abb_search::{Growing, look_at_root};
-use node_evaluation::{Evaluator, Workspace, copy_of_network};
-use pgraph::Site;
-use pns_io::{Effort, Watch};
+use abb_search::{Effort, Evaluator, Growing, Watch, Workspace, copy_of_network, look_at_root};
+use rank_check::{Node, Site, UnitSet};
 use std::alloc::{AllocError, Global};
-use unit_sets::{Node, UnitSet};
 
 /// A search before its first turn.
 #[derive(Drop)]

@@ -6,14 +6,15 @@ use Rattle.std.specs.List.{list_any, slice_split, onto_first}
 use Rattle.std.proofs.lemmas.Bool.{or_from}
 use Rattle.std.proofs.lemmas.List.{length-take-le}
 use Rattle.std.proofs.Math.Seq.{drop-append_seam}
-use Rattle.problem_rules.specs.Each.{Each}
-use Rattle.text_laws.proofs.Cuts.{split_at, split_none}
-use Rattle.text_lines.proofs.Cutting.{parts_some}
-use Rattle.tree_text_rules.specs.Line.{Line, is_feed, lines_from, lines_of, word_text}
-use Rattle.tree_text_rules.specs.declared.Word.TheVariants.{Open, Unknown}
-use Rattle.tree_reading.proofs.Cutting.{more_pieces}
-use Rattle.rank_rules.specs.declared.naming.Naming.{Naming}
-use Rattle.rank_rules.specs.Opened.{way_of, opened_by, opened, unknown_line, line_bytes}
+use Rattle.tree_text_laws.specs.problem_rules.Each.{Each}
+use Rattle.tree_text_laws.proofs.text_laws.Cited.{split_at, split_none}
+use Rattle.tree_reading.proofs.text_lines.Cited.{parts_some}
+use Rattle.tree_text_laws.specs.tree_text_rules.Line.{Line, is_feed, lines_from, lines_of}
+use Rattle.tree_text_laws.specs.tree_text_rules.Line.{word_text}
+use Rattle.tree_text_laws.specs.tree_text_rules.declared.Word.TheVariants.{Open, Unknown}
+use Rattle.tree_reading.proofs.Cited.{more_pieces}
+use Rattle.rank_check.specs.rank_rules.declared.naming.Naming.{Naming}
+use Rattle.rank_check.specs.rank_rules.Opened.{way_of, opened_by, opened, unknown_line, line_bytes}
 
 abbrev pub bytes_of : List Line → List ℕ
 bytes_of lines = flat_map line_bytes lines

@@ -5,30 +5,30 @@ use Rattle.std.proofs.Common.{subst, arith}
 use Rattle.std.specs.Fmt.{signed_decimal}
 use Rattle.std.specs.Str.{bytes_eq}
 use Rattle.std.proofs.lemmas.Slice.Eq.{bytes_eq-Decides}
-use Rattle.integer_laws.specs.Range.{InRange}
-use Rattle.problem_rules.specs.Each.{Each}
-use Rattle.tree_text_rules.specs.Line.{Token, Line, tokens_of, behind_first, fields_of, word_text}
-use Rattle.tree_text_rules.specs.LineRead.{one_and_more}
-use Rattle.tree_text_rules.specs.Token.{both, mapped, number_of, children_of}
-use Rattle.tree_text_rules.specs.Read.{Fault}
-use Rattle.tree_text_rules.specs.declared.TreeKind.{TreeKind}
-use Rattle.tree_text_rules.specs.declared.Word.TheVariants.{Open}
+use Rattle.tree_text_laws.specs.integer_laws.Range.{InRange}
+use Rattle.tree_text_laws.specs.problem_rules.Each.{Each}
+use Rattle.tree_text_laws.specs.tree_text_rules.Line.{Token, Line, tokens_of, behind_first}
+use Rattle.tree_text_laws.specs.tree_text_rules.Line.{fields_of, word_text}
+use Rattle.tree_text_laws.specs.tree_text_rules.LineRead.{one_and_more}
+use Rattle.tree_text_laws.specs.tree_text_rules.Token.{both, mapped, number_of, children_of}
+use Rattle.tree_text_laws.specs.tree_text_rules.Read.{Fault}
+use Rattle.tree_text_laws.specs.tree_text_rules.declared.TreeKind.{TreeKind}
+use Rattle.tree_text_laws.specs.tree_text_rules.declared.Word.TheVariants.{Open}
 use Rattle.tree_text_laws.specs.Codes.{line_of, IsToken}
 use Rattle.tree_text_laws.specs.Lines.{lines_said}
-use Rattle.tree_text_laws.proofs.Parts.{on_line_ok}
-use Rattle.tree_text_laws.proofs.Codes.{AreFields, mapped_ok, both_ok, formed_ok, formed_again}
-use Rattle.tree_text_laws.proofs.Codes.{more_fields}
-use Rattle.tree_text_laws.proofs.Decimals.{number_code, children}
-use Rattle.tree_text_laws.proofs.NodeLines.{all_each, each_all}
-use Rattle.tree_text_laws.proofs.Said.{tokens_said, formed_said, line_from}
-use Rattle.rank_rules.specs.Marked.{Mark, Name, first_mark, other_marks}
-use Rattle.rank_rules.specs.declared.naming.Naming.{Naming}
-use Rattle.rank_rules.specs.declared.naming.Naming.TheVariants.{Only, Within}
-use Rattle.rank_rules.specs.Opened.{is_first, begins_by, way_by, way_of, opened_by, opened, mark_by}
-use Rattle.rank_rules.specs.Opened.{mark_read_by, mark_read, named_read, with_marks, mark_before}
-use Rattle.rank_rules.specs.Opened.{marks_taken}
-use Rattle.rank_rules.specs.Spelling.{named_word, over_word, way_word}
-use Rattle.rank_rules.specs.Text.{FitsWay}
+use Rattle.tree_text_laws.proofs.Cited.{on_line_ok, AreFields, mapped_ok, both_ok, formed_ok}
+use Rattle.tree_text_laws.proofs.Cited.{formed_again, more_fields, number_code, children, all_each}
+use Rattle.tree_text_laws.proofs.Cited.{each_all, tokens_said, formed_said, line_from}
+use Rattle.rank_check.specs.rank_rules.Marked.{Mark, Name, first_mark, other_marks}
+use Rattle.rank_check.specs.rank_rules.declared.naming.Naming.{Naming}
+use Rattle.rank_check.specs.rank_rules.declared.naming.Naming.TheVariants.{Only, Within}
+use Rattle.rank_check.specs.rank_rules.Opened.{is_first, begins_by, way_by, way_of, opened_by}
+use Rattle.rank_check.specs.rank_rules.Opened.{opened, mark_by}
+use Rattle.rank_check.specs.rank_rules.Opened.{mark_read_by, mark_read, named_read, with_marks}
+use Rattle.rank_check.specs.rank_rules.Opened.{mark_before}
+use Rattle.rank_check.specs.rank_rules.Opened.{marks_taken}
+use Rattle.rank_check.specs.rank_rules.Spelling.{named_word, over_word, way_word}
+use Rattle.rank_check.specs.rank_rules.Text.{FitsWay}
 use Rattle.rank_text.specs.Fits.{FitsMark}
 
 -- ---- the line of an open leaf

@@ -1,15 +1,14 @@
 -- The lines of a ranked tree that are printed one after another.
 use Rattle.std.proofs.Common.{◌≡◌, ◌<◌, ◌+◌, ◌++◌, ℕ, List, [], ◌∷◌, length, drop, get_or, sym, ap}
 use Rattle.std.proofs.Common.{◌∙◌}
-use Rattle.problem_rules.specs.Problem.{Problem}
-use Rattle.tree_rules.specs.Tree.{TreeNode}
-use Rattle.tree_rules.specs.Leaf.{Leaf}
-use Rattle.text_rules.specs.Canonical.{joined}
+use Rattle.tree_text_laws.specs.problem_rules.Problem.{Problem}
+use Rattle.tree_text_laws.specs.tree_rules.Tree.{TreeNode}
+use Rattle.tree_text_laws.specs.tree_rules.Leaf.{Leaf}
+use Rattle.tree_text_laws.specs.text_rules.Canonical.{joined}
 use Rattle.tree_text.specs.Printing.{appended}
-use Rattle.tree_text.proofs.Appending.{line_made}
-use Rattle.rank_rules.specs.Marked.{Mark, marked, marked_node, marks_behind}
-use Rattle.rank_rules.specs.Spelling.{node_lines, tree_lines}
-use Rattle.tree_text.proofs.Printed.{item_ahead}
+use Rattle.tree_text.proofs.Cited.{line_made, item_ahead}
+use Rattle.rank_check.specs.rank_rules.Marked.{Mark, marked, marked_node, marks_behind}
+use Rattle.rank_check.specs.rank_rules.Spelling.{node_lines, tree_lines}
 
 -- the lines of a node and of the rest
 pub node_ahead : (p : Problem) (ms next : List Mark) (xs : List (TreeNode Leaf)) (i : ℕ)

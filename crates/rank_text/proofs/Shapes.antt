@@ -3,33 +3,32 @@
 use Rattle.std.proofs.Common.{◌≡◌, ◌+◌, ℕ, ℤ, Bool, List, [], ◌∷◌, ◌++◌, map, length, Option, Some}
 use Rattle.std.proofs.Common.{None, Ok, refl, sym, ap, ◌∙◌, subst, append_assoc, append-nil}
 use Rattle.std.proofs.Common.{zero-add}
-use Rattle.problem_rules.specs.Each.{Each}
-use Rattle.problem_rules.specs.Problem.{Problem}
-use Rattle.problem_rules.specs.WellFormed.{IsWellFormed}
-use Rattle.pns_rules.specs.Nodes as nodes
-use Rattle.flow_rules.specs.Cover.{Cover}
-use Rattle.flow_rules.specs.ChargeLeaf.{Handed}
-use Rattle.tree_rules.specs.Ways as ways
-use Rattle.tree_rules.specs.Tree as trees
-use Rattle.tree_rules.specs.Leaf as leaves
-use Rattle.tree_rules.specs.Accepted.{Tree}
-use Rattle.tree_rules.specs.Claim.{Network}
-use Rattle.tree_rules.specs.Tail as tails
-use Rattle.text_laws.proofs.Each.{each-append}
-use Rattle.tree_text_rules.specs.Line.{Token, Line}
-use Rattle.tree_text_rules.specs.Spelling as plain
+use Rattle.tree_text_laws.specs.problem_rules.Each.{Each}
+use Rattle.tree_text_laws.specs.problem_rules.Problem.{Problem}
+use Rattle.tree_text_laws.specs.problem_rules.WellFormed.{IsWellFormed}
+use Rattle.tree_text_laws.specs.pns_rules.Nodes as nodes
+use Rattle.tree_text_laws.specs.flow_rules.Cover.{Cover}
+use Rattle.tree_text_laws.specs.flow_rules.ChargeLeaf.{Handed}
+use Rattle.tree_text_laws.specs.tree_rules.Ways as ways
+use Rattle.tree_text_laws.specs.tree_rules.Tree as trees
+use Rattle.tree_text_laws.specs.tree_rules.Leaf as leaves
+use Rattle.tree_text_laws.specs.tree_rules.Accepted.{Tree}
+use Rattle.tree_text_laws.specs.tree_rules.Claim.{Network}
+use Rattle.tree_text_laws.specs.tree_rules.Tail as tails
+use Rattle.tree_text_laws.proofs.text_laws.Cited.{each-append}
+use Rattle.tree_text_laws.specs.tree_text_rules.Line.{Token, Line}
+use Rattle.tree_text_laws.specs.tree_text_rules.Spelling as plain
 use Rattle.tree_text_laws.specs.Codes.{IsToken}
 use Rattle.tree_text_laws.specs.Fits.{FitsNetwork, FitsTree, FitsTail}
-use Rattle.tree_text_laws.proofs.ClaimLines.{network_line, sizes_line, cost_line}
-use Rattle.tree_text_laws.proofs.NodeLines.{all_each}
-use Rattle.tree_text_laws.proofs.Nodes.{tree_tokens}
-use Rattle.tree_text_laws.proofs.Tails.{tail_tokens}
+use Rattle.tree_text_laws.proofs.Cited.{network_line, sizes_line, cost_line, all_each, tree_tokens}
+use Rattle.tree_text_laws.proofs.Cited.{tail_tokens}
 use Rattle.tree_text_laws.specs.Lines.{lines_said}
-use Rattle.rank_rules.specs.Marked.{Mark, marked, marked_end, marked_leaf, marks_behind, first_mark}
-use Rattle.rank_rules.specs.Marked.{other_marks}
-use Rattle.rank_rules.specs.Opened.{opened, marks_taken}
-use Rattle.rank_rules.specs.Spelling.{end_with_sets, tree_lines}
-use Rattle.rank_rules.specs.Text.{IsBareAt, AreBare}
+use Rattle.rank_check.specs.rank_rules.Marked.{Mark, marked, marked_end, marked_leaf, marks_behind}
+use Rattle.rank_check.specs.rank_rules.Marked.{first_mark}
+use Rattle.rank_check.specs.rank_rules.Marked.{other_marks}
+use Rattle.rank_check.specs.rank_rules.Opened.{opened, marks_taken}
+use Rattle.rank_check.specs.rank_rules.Spelling.{end_with_sets, tree_lines}
+use Rattle.rank_check.specs.rank_rules.Text.{IsBareAt, AreBare}
 use Rattle.rank_text.specs.Fits.{FitsMark, opens, opens_at}
 use Rattle.rank_text.proofs.OpenLines.{IsShut, IsLow, still, place, low, Form, AreShut, AreOpen}
 use Rattle.rank_text.proofs.OpenLines.{filled, places, mark_line, open_tokens, Gives, gives, comes}

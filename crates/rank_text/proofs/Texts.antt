@@ -7,42 +7,45 @@ use Rattle.std.specs.Str.{bytes_eq}
 use Rattle.std.proofs.lemmas.Bool.{leb-true, le-leb}
 use Rattle.std.proofs.lemmas.List.{map-append}
 use Rattle.std.proofs.lemmas.Slice.Eq.{bytes_eq-Decides}
-use Rattle.problem_rules.specs.Each.{Each}
-use Rattle.problem_rules.specs.Problem.{Problem}
-use Rattle.problem_rules.specs.WellFormed.{IsWellFormed}
-use Rattle.text_laws.proofs.Each.{each-append, each-to}
-use Rattle.tree_rules.specs.Claim.{Network}
-use Rattle.tree_rules.specs.Accepted.{Tree}
-use Rattle.tree_rules.specs.Tail.{Tail}
-use Rattle.tree_text_rules.specs.Line.{Token, Line, lines_of, tokens_of}
-use Rattle.tree_text_rules.specs.LineRead.{one}
-use Rattle.tree_text_rules.specs.Read.{Fault, Taken, then_read, network_taken}
-use Rattle.tree_text_rules.specs.Read.{tree_taken, tail_taken}
-use Rattle.tree_text_rules.specs.Spelling as plain
-use Rattle.tree_text_rules.specs.Token.{judged, count_of}
-use Rattle.tree_text_rules.specs.declared.TreeKind.{TreeKind}
-use Rattle.tree_text_rules.specs.declared.TreeKind.TheVariants.{FileType, BadLine, BadNumber}
+use Rattle.tree_text_laws.specs.problem_rules.Each.{Each}
+use Rattle.tree_text_laws.specs.problem_rules.Problem.{Problem}
+use Rattle.tree_text_laws.specs.problem_rules.WellFormed.{IsWellFormed}
+use Rattle.tree_text_laws.proofs.text_laws.Cited.{each-append, each-to}
+use Rattle.tree_text_laws.specs.tree_rules.Claim.{Network}
+use Rattle.tree_text_laws.specs.tree_rules.Accepted.{Tree}
+use Rattle.tree_text_laws.specs.tree_rules.Tail.{Tail}
+use Rattle.tree_text_laws.specs.tree_text_rules.Line.{Token, Line, lines_of, tokens_of}
+use Rattle.tree_text_laws.specs.tree_text_rules.LineRead.{one}
+use Rattle.tree_text_laws.specs.tree_text_rules.Read.{Fault, Taken, then_read, network_taken}
+use Rattle.tree_text_laws.specs.tree_text_rules.Read.{tree_taken, tail_taken}
+use Rattle.tree_text_laws.specs.tree_text_rules.Spelling as plain
+use Rattle.tree_text_laws.specs.tree_text_rules.Token.{judged, count_of}
+use Rattle.tree_text_laws.specs.tree_text_rules.declared.TreeKind.{TreeKind}
+use Rattle.tree_text_laws.specs.tree_text_rules.declared.TreeKind.TheVariants.{FileType, BadLine}
+use Rattle.tree_text_laws.specs.tree_text_rules.declared.TreeKind.TheVariants.{BadNumber}
 use Rattle.tree_text_laws.specs.Codes.{line_of, IsToken, IsLineCode}
 use Rattle.tree_text_laws.specs.LineFits.{IsCount, IsSomeCount}
-use Rattle.tree_text_laws.proofs.Pieces.{text_back, text_again, HasNoFeed}
-use Rattle.tree_text_laws.proofs.Codes.{judged_ok, judged_again, formed_ok, formed_again}
-use Rattle.tree_text_laws.proofs.Codes.{one_fields}
-use Rattle.tree_text_laws.proofs.Decimals.{counts}
-use Rattle.tree_text_laws.proofs.Said.{no_feed, tokens_said, formed_said, line_from}
+use Rattle.tree_text_laws.proofs.Cited.{text_back, text_again, HasNoFeed, judged_ok, judged_again}
+use Rattle.tree_text_laws.proofs.Cited.{formed_ok, formed_again, one_fields, counts, no_feed}
+use Rattle.tree_text_laws.proofs.Cited.{tokens_said, formed_said, line_from, tail_no_set, good_is}
+use Rattle.tree_text_laws.proofs.Cited.{on_line_ok, then_ok, first_back, first_again}
 use Rattle.tree_text_laws.specs.Fits.{FitsNetwork, FitsTree, FitsTail}
 use Rattle.tree_text_laws.specs.Lines.{lines_said, TakesJust, TakesBefore, ReadsJust, BeginsNoSet}
-use Rattle.tree_text_laws.proofs.Tails.{tail_no_set}
-use Rattle.tree_text_laws.proofs.Parts.{good_is, on_line_ok, then_ok, first_back, first_again}
-use Rattle.rank_rules.specs.Marked.{Mark}
-use Rattle.rank_rules.specs.Text.{Text, AreNumbered, FitWays, AreBare}
-use Rattle.rank_rules.specs.Opened.{opened, marks_taken}
-use Rattle.rank_rules.specs.Read.{file_type_read, behind_word, word_read, count_read, networks_read}
-use Rattle.rank_rules.specs.Read.{with_network, networks_taken, Grown, with_tail, grown_taken}
-use Rattle.rank_rules.specs.Read.{put_together, behind_networks, is_distinct, listed_taken}
-use Rattle.rank_rules.specs.Read.{asked_taken, rest_taken, lines_taken, read_text}
-use Rattle.rank_rules.specs.Spelling.{file_type, count_word, distinct_word, networks_word}
-use Rattle.rank_rules.specs.Spelling.{grown_lines, distinct_lines, listed_lines, rank_text_lines}
-use Rattle.rank_rules.specs.Spelling.{rank_text}
+use Rattle.rank_check.specs.rank_rules.Marked.{Mark}
+use Rattle.rank_check.specs.rank_rules.Text.{Text, AreNumbered, FitWays, AreBare}
+use Rattle.rank_check.specs.rank_rules.Opened.{opened, marks_taken}
+use Rattle.rank_check.specs.rank_rules.Read.{file_type_read, behind_word, word_read, count_read}
+use Rattle.rank_check.specs.rank_rules.Read.{networks_read}
+use Rattle.rank_check.specs.rank_rules.Read.{with_network, networks_taken, Grown, with_tail}
+use Rattle.rank_check.specs.rank_rules.Read.{grown_taken}
+use Rattle.rank_check.specs.rank_rules.Read.{put_together, behind_networks, is_distinct}
+use Rattle.rank_check.specs.rank_rules.Read.{listed_taken}
+use Rattle.rank_check.specs.rank_rules.Read.{asked_taken, rest_taken, lines_taken, read_text}
+use Rattle.rank_check.specs.rank_rules.Spelling.{file_type, count_word, distinct_word}
+use Rattle.rank_check.specs.rank_rules.Spelling.{networks_word}
+use Rattle.rank_check.specs.rank_rules.Spelling.{grown_lines, distinct_lines, listed_lines}
+use Rattle.rank_check.specs.rank_rules.Spelling.{rank_text_lines}
+use Rattle.rank_check.specs.rank_rules.Spelling.{rank_text}
 use Rattle.rank_text.specs.Fits.{Fits, FitsMark, opens}
 use Rattle.rank_text.specs.Laws.{IsSpelled}
 use Rattle.rank_text.proofs.OpenLines.{Gives}

@@ -4,28 +4,30 @@ use Rattle.std.proofs.Common.{◌≡◌, ◌<◌, ◌≤◌, ◌-◌, ℕ, suc, 
 use Rattle.std.proofs.Common.{Option, Some, None, IfSome, IfNone, Result, Ok, Err, refl, sym, ap}
 use Rattle.std.proofs.Common.{ap₂, ◌∙◌}
 use Rattle.std.proofs.Common.{arith, append-nil}
-use Rattle.problem_rules.specs.Problem.{Problem}
-use Rattle.tree_rules.specs.Accepted.{Tree}
-use Rattle.tree_rules.specs.Tail.{Tail}
-use Rattle.tree_rules.specs.Claim as claims
-use Rattle.tree_rules.specs.Claim.{Network}
-use Rattle.tree_text_rules.specs.Line.{Line, lines_of, word_named}
-use Rattle.tree_text_rules.specs.LineRead as reads
-use Rattle.tree_text_rules.specs.LineRead.{opening_read}
-use Rattle.tree_text_rules.specs.Read as rules
-use Rattle.tree_text_rules.specs.Read.{Fault, Taken, Certificate, on_line, then_read, network_taken}
-use Rattle.tree_text_rules.specs.Read.{claim_behind, tree_taken, tail_taken}
-use Rattle.tree_text_rules.specs.declared.TreeKind.{TreeKind}
-use Rattle.tree_text_rules.specs.declared.TreeKind.TheVariants.{BadLine}
-use Rattle.text_lines.specs.Tells.{Tells}
-use Rattle.text_lines.specs.declared.fault.TextFault.{TextFault}
-use Rattle.text_lines.specs.declared.fault.TextFault.TheVariants.{At, Memory}
-use Rattle.rank_rules.specs.Marked.{Mark}
-use Rattle.rank_rules.specs.Text.{Text}
-use Rattle.rank_rules.specs.Opened.{opened, unknown_line, marks_taken, so_far}
-use Rattle.rank_rules.specs.Read.{Grown, with_network, with_tail, networks_taken, grown_taken}
-use Rattle.rank_rules.specs.Read.{earlier, put_together, behind_networks, is_distinct}
-use Rattle.rank_rules.specs.Read.{listed_taken, asked_taken}
+use Rattle.tree_text_laws.specs.problem_rules.Problem.{Problem}
+use Rattle.tree_text_laws.specs.tree_rules.Accepted.{Tree}
+use Rattle.tree_text_laws.specs.tree_rules.Tail.{Tail}
+use Rattle.tree_text_laws.specs.tree_rules.Claim as claims
+use Rattle.tree_text_laws.specs.tree_rules.Claim.{Network}
+use Rattle.tree_text_laws.specs.tree_text_rules.Line.{Line, lines_of, word_named}
+use Rattle.tree_text_laws.specs.tree_text_rules.LineRead as reads
+use Rattle.tree_text_laws.specs.tree_text_rules.LineRead.{opening_read}
+use Rattle.tree_text_laws.specs.tree_text_rules.Read as rules
+use Rattle.tree_text_laws.specs.tree_text_rules.Read.{Fault, Taken, Certificate, on_line, then_read}
+use Rattle.tree_text_laws.specs.tree_text_rules.Read.{network_taken}
+use Rattle.tree_text_laws.specs.tree_text_rules.Read.{claim_behind, tree_taken, tail_taken}
+use Rattle.tree_text_laws.specs.tree_text_rules.declared.TreeKind.{TreeKind}
+use Rattle.tree_text_laws.specs.tree_text_rules.declared.TreeKind.TheVariants.{BadLine}
+use Rattle.tree_reading.specs.text_lines.Tells.{Tells}
+use Rattle.tree_reading.specs.text_lines.declared.fault.TextFault.{TextFault}
+use Rattle.tree_reading.specs.text_lines.declared.fault.TextFault.TheVariants.{At, Memory}
+use Rattle.rank_check.specs.rank_rules.Marked.{Mark}
+use Rattle.rank_check.specs.rank_rules.Text.{Text}
+use Rattle.rank_check.specs.rank_rules.Opened.{opened, unknown_line, marks_taken, so_far}
+use Rattle.rank_check.specs.rank_rules.Read.{Grown, with_network, with_tail, networks_taken}
+use Rattle.rank_check.specs.rank_rules.Read.{grown_taken}
+use Rattle.rank_check.specs.rank_rules.Read.{earlier, put_together, behind_networks, is_distinct}
+use Rattle.rank_check.specs.rank_rules.Read.{listed_taken, asked_taken}
 
 -- ---- networks
 

@@ -2,16 +2,16 @@
 -- for each open leaf of the tree one mark, with numbers in range. An open leaf with a bound names
 -- no network.
 use Rattle.std.specs.Prelude.{◌≡◌, ◌≤◌, ◌+◌, ℕ, Bool, [], ◌∷◌, length, Some, None}
-use Rattle.integer_laws.specs.Range.{InRange, AllInRange}
-use Rattle.problem_rules.specs.Each.{Each}
-use Rattle.problem_rules.specs.Problem.{Problem}
-use Rattle.tree_rules.specs.Tree as trees
-use Rattle.tree_rules.specs.Leaf as leaves
-use Rattle.tree_rules.specs.Accepted.{Tree}
+use Rattle.tree_text_laws.specs.integer_laws.Range.{InRange, AllInRange}
+use Rattle.tree_text_laws.specs.problem_rules.Each.{Each}
+use Rattle.tree_text_laws.specs.problem_rules.Problem.{Problem}
+use Rattle.tree_text_laws.specs.tree_rules.Tree as trees
+use Rattle.tree_text_laws.specs.tree_rules.Leaf as leaves
+use Rattle.tree_text_laws.specs.tree_rules.Accepted.{Tree}
 use Rattle.tree_text_laws.specs.LineFits.{IsSomeCount}
 use Rattle.tree_text_laws.specs.Fits.{FitsNetwork, FitsTree, FitsTail}
-use Rattle.rank_rules.specs.Marked.{Mark}
-use Rattle.rank_rules.specs.Text.{Text, FitsWay, AreBare}
+use Rattle.rank_check.specs.rank_rules.Marked.{Mark}
+use Rattle.rank_check.specs.rank_rules.Text.{Text, FitsWay, AreBare}
 
 -- how many open leaves there are
 abbrev pub opens_at : trees.End leaves.Leaf → ℕ

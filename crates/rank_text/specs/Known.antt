@@ -1,8 +1,8 @@
 -- Rankings whose numbers a problem knows.
-use Rattle.problem_rules.specs.Each.{Each}
-use Rattle.problem_rules.specs.Problem.{Problem}
-use Rattle.tree_rules.specs.Known.{KnowsTree, KnowsTail}
-use Rattle.rank_rules.specs.Text.{Text}
+use Rattle.tree_text_laws.specs.problem_rules.Each.{Each}
+use Rattle.tree_text_laws.specs.problem_rules.Problem.{Problem}
+use Rattle.tree_text_laws.specs.tree_rules.Known.{KnowsTree, KnowsTail}
+use Rattle.rank_check.specs.rank_rules.Text.{Text}
 use Rattle.rank_check.specs.Known.{KnowsNetwork}
 
 pub record KnowsText (p : Problem) (t : Text) : Type 0 where

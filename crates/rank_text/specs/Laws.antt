@@ -1,10 +1,10 @@
 -- The laws of the text of rankings. Each is the contract of a public function of this crate.
 use Rattle.std.specs.Prelude.{◌≡◌, ℕ, List, Ok}
-use Rattle.problem_rules.specs.Problem.{Problem}
-use Rattle.problem_rules.specs.Validity.{IsValid}
-use Rattle.rank_rules.specs.Text.{Text}
-use Rattle.rank_rules.specs.Read.{read_text}
-use Rattle.rank_rules.specs.Spelling.{rank_text}
+use Rattle.tree_text_laws.specs.problem_rules.Problem.{Problem}
+use Rattle.tree_text_laws.specs.problem_rules.Validity.{IsValid}
+use Rattle.rank_check.specs.rank_rules.Text.{Text}
+use Rattle.rank_check.specs.rank_rules.Read.{read_text}
+use Rattle.rank_check.specs.rank_rules.Spelling.{rank_text}
 use Rattle.rank_text.specs.Fits.{Fits}
 
 -- The text of a ranking that fits a valid problem has no fault, and stands for the ranking.

@@ -1,9 +1,9 @@
 -- Readings that go on line by line.
 use Rattle.std.specs.Prelude.{◌≡◌, ℕ, List, Option, Result}
-use Rattle.tree_text_rules.specs.Read.{Fault}
-use Rattle.tree_text_rules.specs.declared.TreeKind.{TreeKind}
-use Rattle.rank_rules.specs.Marked.{Mark}
-use Rattle.rank_rules.specs.Opened.{mark_before, so_far}
+use Rattle.tree_text_laws.specs.tree_text_rules.Read.{Fault}
+use Rattle.tree_text_laws.specs.tree_text_rules.declared.TreeKind.{TreeKind}
+use Rattle.rank_check.specs.rank_rules.Marked.{Mark}
+use Rattle.rank_check.specs.rank_rules.Opened.{mark_before, so_far}
 
 -- after a line of which this is read, these marks and this fault stand for the ones before it,
 -- whatever follows

@@ -1,14 +1,15 @@
 //! What a line begins with, and the first three lines.
 ghost use Rattle.std.specs.Prelude.{◌≡◌, ◌≤◌, IfOk};
 ghost use Rattle.tree_reading.specs.View.{line_of};
-ghost use Rattle.rank_rules.specs.Opened.{begins_by, way_of};
-ghost use Rattle.rank_rules.specs.Read.{file_type_read, word_read, count_read, is_distinct};
-ghost use Rattle.rank_rules.specs.Headed.{is_first_of_ranking};
-ghost use Rattle.rank_rules.specs.Read.{networks_read};
+ghost use Rattle.rank_check.specs.rank_rules.Opened.{begins_by, way_of};
+ghost use Rattle.rank_check.specs.rank_rules.Read.{file_type_read, word_read, count_read};
+ghost use Rattle.rank_check.specs.rank_rules.Read.{is_distinct};
+ghost use Rattle.rank_check.specs.rank_rules.Headed.{is_first_of_ranking};
+ghost use Rattle.rank_check.specs.rank_rules.Read.{networks_read};
 
-use rank_rules::Naming;
+use rank_check::Naming;
 use tree_reading::{Line, first_token, one_count, parts_of};
-use tree_text_rules::TreeKind;
+use tree_text_laws::TreeKind;
 
 /// Whether the line begins with the word.
 pub fn begins_by(word: &[u8], line: &Line) -> bool

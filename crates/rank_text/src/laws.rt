@@ -1,8 +1,7 @@
 //! The laws. Each function does nothing when it runs; a call gives a proof its law.
 ghost use Rattle.rank_text.specs.Laws.{SpelledRanksRead, ReadRanksAreSpelled};
 
-use problem_rules::valid_is_well_formed;
-use tree_text_laws::{networks_are_taken, tails_are_read, trees_are_taken};
+use tree_text_laws::{networks_are_taken, tails_are_read, trees_are_taken, valid_is_well_formed};
 
 /// The text of a ranking that fits a valid problem reads as the ranking.
 pub fn spelled_ranks_read()

@@ -26,4 +26,11 @@ mod read;
 
 pub use laws::{read_ranks_are_spelled, spelled_ranks_read};
 pub use print::print_rank;
+pub use rank_check::{
+    Asked, Mark, RankRefusal, RankText, RankWhy, accepted_is_optimal, alternatives_are_right,
+    check_rank, judge_networks, listed_are_least, others_are_no_better,
+};
 pub use read::{is_ranking, read_rank};
+pub use tree_reading::{Headed, TreeFault, read_headed};
+pub use tree_text::{Effort, Outputs, Shelf, Sink, Watch};
+pub use tree_text_laws::{Claim, Graph, Head, Network, Problem, Site, Tail, Tree, Why};

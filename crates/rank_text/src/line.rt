@@ -1,11 +1,10 @@
 //! The lines of a ranking that no tree text has, without their line feeds.
 ghost use Rattle.std.specs.Prelude.{◌≡◌, ◌∷◌, [], OnOk, map, decimal, string_bytes};
 ghost use Rattle.std.specs.Fmt.{signed_decimal};
-ghost use Rattle.text_rules.specs.Canonical.{joined};
-ghost use Rattle.rank_rules.specs.Spelling.{way_word};
+ghost use Rattle.tree_text_laws.specs.text_rules.Canonical.{joined};
+ghost use Rattle.rank_check.specs.rank_rules.Spelling.{way_word};
 
-use rank_rules::Naming;
-use rank_check::Name;
+use rank_check::{Name, Naming};
 use std::alloc::AllocError;
 use tree_text::{begin, push_count, push_number, push_numbers};
 

@@ -1,21 +1,18 @@
 //! The line of an open leaf.
 ghost use Rattle.std.specs.Prelude.{◌≡◌, Ok, IfOk, IfErr};
-ghost use Rattle.tree_text_rules.specs.LineRead.{one_and_more};
-ghost use Rattle.tree_text_rules.specs.Token as rules;
-ghost use Rattle.text_lines.specs.Tells.{TellsLine};
+ghost use Rattle.tree_text_laws.specs.tree_text_rules.LineRead.{one_and_more};
+ghost use Rattle.tree_text_laws.specs.tree_text_rules.Token as rules;
+ghost use Rattle.tree_reading.specs.text_lines.Tells.{TellsLine};
 ghost use Rattle.tree_reading.specs.View.{line_of, tokens_in};
 ghost use Rattle.rank_check.specs.View.{mark_of};
-ghost use Rattle.rank_rules.specs.Opened.{mark_with, named_read};
+ghost use Rattle.rank_check.specs.rank_rules.Opened.{mark_with, named_read};
 
-use branch_tree::{End, Scaled};
-use pns_problem::Problem;
-use rank_rules::Naming;
-use rank_check::{Mark, Name};
+use rank_check::{Mark, Name, Naming};
 use std::alloc::Global;
 use tree_reading::{
     Line, LineFault, LineParts, children_of, end_line, lesser, next_token, parts_of,
 };
-use tree_text_rules::{TreeKind, Word};
+use tree_text_laws::{End, Problem, Scaled, TreeKind, Word};
 
 // A scale and multipliers, which are read as those of a line `bound`.
 fn scaled_fields(

@@ -1,17 +1,15 @@
 //! The networks of a text.
 ghost use Rattle.std.specs.Prelude.{◌≡◌, ◌≤◌, ◌<◌, ◌-◌, ◌^◌, Ok, IfOk, IfErr, length};
-ghost use Rattle.problem_rules.specs.Each.{Each};
+ghost use Rattle.tree_text_laws.specs.problem_rules.Each.{Each};
 ghost use Rattle.tree_reading.specs.Place.{IsCut, IsReached, lines_at};
 ghost use Rattle.tree_reading.specs.Taken.{taken};
-ghost use Rattle.text_lines.specs.Tells.{Tells};
+ghost use Rattle.tree_reading.specs.text_lines.Tells.{Tells};
 ghost use Rattle.rank_check.specs.Known.{KnowsNetwork};
-ghost use Rattle.rank_rules.specs.Read.{networks_taken};
+ghost use Rattle.rank_check.specs.rank_rules.Read.{networks_taken};
 
-use branch_tree::Network;
-use pns_problem::Problem;
 use std::alloc::Global;
 use tree_reading::{Cut, TreeFault, read_network};
-use tree_text_laws::networks_are_taken;
+use tree_text_laws::{Network, Problem, networks_are_taken};
 
 /// This many networks, the first of which has its first line at this place, and the place after
 /// them. `At` comes with the first fault of their lines, and only then; `Memory` says that there

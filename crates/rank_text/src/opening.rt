@@ -6,20 +6,19 @@ ghost use Rattle.std.specs.Prelude.{map};
 ghost use Rattle.tree_reading.specs.View.{line_of};
 ghost use Rattle.tree_reading.specs.Place.{IsCut, lines_at};
 ghost use Rattle.rank_check.specs.View.{mark_of};
-ghost use Rattle.tree_text_rules.specs.Line.{word_text};
-ghost use Rattle.tree_text_rules.specs.declared.Word.TheVariants.{Open};
-ghost use Rattle.rank_rules.specs.Opened.{begins_by, opened_by, opened, unknown_line, line_bytes};
-ghost use Rattle.rank_rules.specs.Opened.{mark_read_by, marks_taken, so_far};
+ghost use Rattle.tree_text_laws.specs.tree_text_rules.Line.{word_text};
+ghost use Rattle.tree_text_laws.specs.tree_text_rules.declared.Word.TheVariants.{Open};
+ghost use Rattle.rank_check.specs.rank_rules.Opened.{begins_by, opened_by, opened, unknown_line};
+ghost use Rattle.rank_check.specs.rank_rules.Opened.{line_bytes};
+ghost use Rattle.rank_check.specs.rank_rules.Opened.{mark_read_by, marks_taken, so_far};
 ghost use Rattle.rank_text.specs.Takes.{TakesMark};
 
 use crate::front::{begins_by, way_of};
 use crate::mark::named_line;
-use pns_problem::Problem;
-use rank_rules::Naming;
-use rank_check::Mark;
+use rank_check::{Mark, Naming};
 use std::alloc::{AllocError, Global};
 use tree_reading::{Cut, Line, LineFault, line_at};
-use tree_text_rules::TreeKind;
+use tree_text_laws::{Problem, TreeKind};
 
 /// A reader takes fewer bytes than these.
 const TOO_MANY_BYTES: usize = 4_294_967_295;

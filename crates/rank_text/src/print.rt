@@ -1,25 +1,27 @@
 //! The text of a ranking, line by line.
 ghost use Rattle.std.specs.Prelude.{◌≡◌, ◌≤◌, ◌++◌, ◌∷◌, [], map, flat_map, decimal};
-ghost use Rattle.problem_rules.specs.Each.{Each};
-ghost use Rattle.tree_rules.specs.Known.{KnowsEnd, KnowsNode, KnowsTree};
-ghost use Rattle.branch_tree.specs.View.{end_of};
-ghost use Rattle.tree_text_rules.specs.Spelling as trees;
+ghost use Rattle.tree_text_laws.specs.problem_rules.Each.{Each};
+ghost use Rattle.tree_text_laws.specs.tree_rules.Known.{KnowsEnd, KnowsNode, KnowsTree};
+ghost use Rattle.tree_text_laws.specs.branch_tree.View.{end_of};
+ghost use Rattle.tree_text_laws.specs.tree_text_rules.Spelling as trees;
 ghost use Rattle.tree_text.specs.Prints.{Prints};
-ghost use Rattle.rank_rules.specs.Marked.{marked, marked_node, marked_end, marks_behind};
+ghost use Rattle.rank_check.specs.rank_rules.Marked.{marked, marked_node, marked_end, marks_behind};
 ghost use Rattle.rank_check.specs.View.{mark_of};
 ghost use Rattle.rank_check.specs.Known.{KnowsNetwork};
 ghost use Rattle.rank_text.specs.Known.{KnowsText};
-ghost use Rattle.rank_rules.specs.Spelling.{count_word, file_type, named_line, end_with_sets};
-ghost use Rattle.rank_rules.specs.Spelling.{node_lines, tree_lines, distinct_lines, listed_lines};
-ghost use Rattle.rank_rules.specs.Spelling.{rank_text_lines};
+ghost use Rattle.rank_check.specs.rank_rules.Spelling.{count_word, file_type, named_line};
+ghost use Rattle.rank_check.specs.rank_rules.Spelling.{end_with_sets};
+ghost use Rattle.rank_check.specs.rank_rules.Spelling.{node_lines, tree_lines, distinct_lines};
+ghost use Rattle.rank_check.specs.rank_rules.Spelling.{listed_lines};
+ghost use Rattle.rank_check.specs.rank_rules.Spelling.{rank_text_lines};
 
 use crate::line::{count_line, named_line};
-use branch_tree::{End, Network, TreeNode};
-use pns_io::Sink;
-use pns_problem::Problem;
 use rank_check::{Mark, Name, RankText};
 use std::alloc::Global;
-use tree_text::{PrintFault, begin, print_end, print_head, print_network, print_tail, put_line};
+use tree_text::{
+    PrintFault, Sink, begin, print_end, print_head, print_network, print_tail, put_line,
+};
+use tree_text_laws::{End, Network, Problem, TreeNode};
 
 fn put_count<K: Sink>(alloc: Global, word: &str, count: u32, out: &mut K) -> Result<(), PrintFault>
     ensures prints { Prints ((word.now ∷ decimal count ∷ []) ∷ []) (K.state out.old)

@@ -1,25 +1,23 @@
 //! Whole texts.
 ghost use Rattle.std.specs.Prelude.{◌≡◌, ◌≤◌, ◌<◌, ◌-◌, ◌^◌, Ok, IfOk, IfErr, IfSome, IfNone};
 ghost use Rattle.std.specs.Prelude.{length};
-ghost use Rattle.problem_rules.specs.Each.{Each};
+ghost use Rattle.tree_text_laws.specs.problem_rules.Each.{Each};
 ghost use Rattle.tree_reading.specs.Place.{IsCut, lines_at};
-ghost use Rattle.text_lines.specs.Tells.{Tells};
+ghost use Rattle.tree_reading.specs.text_lines.Tells.{Tells};
 ghost use Rattle.rank_check.specs.Known.{KnowsNetwork};
 ghost use Rattle.rank_text.specs.Known.{KnowsText};
-ghost use Rattle.rank_rules.specs.Read.{behind_networks, listed_taken, asked_taken, rest_taken};
-ghost use Rattle.rank_rules.specs.Read.{read_text, earlier};
-ghost use Rattle.rank_rules.specs.Headed.{is_ranking};
+ghost use Rattle.rank_check.specs.rank_rules.Read.{behind_networks, listed_taken, asked_taken};
+ghost use Rattle.rank_check.specs.rank_rules.Read.{rest_taken};
+ghost use Rattle.rank_check.specs.rank_rules.Read.{read_text, earlier};
+ghost use Rattle.rank_check.specs.rank_rules.Headed.{is_ranking};
 
 use crate::front::{count_line, file_type_line, is_distinct, is_first_of_ranking, networks_line};
 use crate::networks::read_networks;
 use crate::opening::{OpenText, open_lines};
-use branch_tree::Network;
-use pns_problem::Problem;
 use rank_check::{Asked, RankText};
 use std::alloc::Global;
 use tree_reading::{Cut, TreeFault, kind_at, line_at, read_rest};
-use tree_text_laws::{tails_are_read, trees_are_taken};
-use tree_text_rules::TreeKind;
+use tree_text_laws::{Network, Problem, TreeKind, tails_are_read, trees_are_taken};
 
 // The fault of a line that names a network if its line comes before the other, else the other
 // fault.

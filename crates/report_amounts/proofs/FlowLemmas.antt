@@ -6,18 +6,19 @@ use Rattle.std.specs.Prelude.{◌||◌, ◌&&◌, nat_lt, not}
 use Rattle.std.specs.Ordering.{int_eq}
 use Rattle.std.proofs.lemmas.Int.{ints}
 use Rattle.std.proofs.lemmas.Bool.{eqb-true, lt-ltb}
-use Rattle.integer_laws.specs.Range.{InRange}
-use Rattle.integer_laws.specs.Total.{total}
-use Rattle.number_sets.specs.Sets.{has, kept, listed, IsSet, IsWithin}
-use Rattle.number_sets.proofs.SetLemmas.{has-kept, has-listed, same_sets, IsRising-kept}
-use Rattle.number_sets.proofs.SetLemmas.{IsRising-listed, listed-is, below_from, any_below-some}
-use Rattle.pns_rules.specs.Shape.{Shape, IsProper}
-use Rattle.pns_rules.specs.Structure.{mats, is_used, is_made}
-use Rattle.flow_rules.specs.Net.{Net}
-use Rattle.flow_rules.specs.Flows.{balance}
-use Rattle.flow_rules.specs.Steps.{AreInRange}
-use Rattle.flow_rules.specs.FeasibleSteps.{units_at, balance_steps, materials_steps}
-use Rattle.flow_rules.proofs.ZeroLemmas.{int_eq_other, zero_from}
+use Rattle.report_rules.specs.integer_laws.Range.{InRange}
+use Rattle.report_rules.specs.integer_laws.Total.{total}
+use Rattle.report_rules.specs.number_sets.Sets.{has, kept, listed, IsSet, IsWithin}
+use Rattle.report_rules.proofs.number_sets.Cited.{has-kept, has-listed, same_sets, IsRising-kept}
+use Rattle.report_rules.proofs.number_sets.Cited.{IsRising-listed, listed-is, below_from}
+use Rattle.report_rules.proofs.number_sets.Cited.{any_below-some}
+use Rattle.report_rules.specs.pns_rules.Shape.{Shape, IsProper}
+use Rattle.report_rules.specs.pns_rules.Structure.{mats, is_used, is_made}
+use Rattle.report_rules.specs.flow_rules.Net.{Net}
+use Rattle.report_rules.specs.flow_rules.Flows.{balance}
+use Rattle.report_rules.specs.flow_rules.Steps.{AreInRange}
+use Rattle.report_rules.specs.flow_rules.FeasibleSteps.{units_at, balance_steps, materials_steps}
+use Rattle.report_rules.proofs.flow_rules.Cited.{int_eq_other, zero_from}
 use Rattle.report_amounts.proofs.Walk.{rest_within}
 
 -- whether the unit has a rate of the material

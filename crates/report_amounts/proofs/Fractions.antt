@@ -9,13 +9,13 @@ use Rattle.std.proofs.lemmas.Bool.{eqb-true, lt-ltb, ltb-true}
 use Rattle.std.proofs.lemmas.Nat.{mod_below}
 use Rattle.std.proofs.lemmas.Nat.Gcd.{IsGcd-from_zero, IsGcd-from_mod}
 use Rattle.std.proofs.Math.Nat.{mul-div_cancel'}
-use Rattle.integer_laws.proofs.Ring.{mul_neg_at}
-use Rattle.integer_laws.specs.Range.{InRange}
-use Rattle.integer_laws.specs.Lowest.{IsLowest}
-use Rattle.exact_numbers.proofs.LowestLemmas.{lowest_same}
-use Rattle.exact_numbers.specs.Product.{IsPastLowest}
-use Rattle.exact_numbers.specs.Sum.{IsSumInRange, IsPastSum}
-use Rattle.text_rules.specs.Amount.{signed}
+use Rattle.report_rules.proofs.integer_laws.Cited.{mul_neg_at}
+use Rattle.report_rules.specs.integer_laws.Range.{InRange}
+use Rattle.report_rules.specs.integer_laws.Lowest.{IsLowest}
+use Rattle.flow_evaluator.proofs.exact_numbers.Cited.{lowest_same}
+use Rattle.flow_evaluator.specs.exact_numbers.Product.{IsPastLowest}
+use Rattle.flow_evaluator.specs.exact_numbers.Sum.{IsSumInRange, IsPastSum}
+use Rattle.report_rules.specs.text_rules.Amount.{signed}
 use Rattle.report_rules.specs.Number.{Fraction, Number, common, gcd, lowest, is_in_range, kept}
 use Rattle.report_rules.specs.Number.{parts, are_in_range, sum_in_range, plus}
 

@@ -1,14 +1,14 @@
 -- The materials of a network are some of the problem's, and their flows were judged.
 use Rattle.std.proofs.Common.{◌≡◌, ℕ, ◌<◌, true, length, pos}
-use Rattle.number_sets.specs.Sets.{has}
-use Rattle.number_sets.proofs.SetLemmas.{has_below, AreBelow-listed}
-use Rattle.problem_rules.specs.Problem.{Problem}
-use Rattle.pns_rules.specs.Shape.{shape_of}
-use Rattle.pns_rules.specs.Structure.{mats}
-use Rattle.flow_rules.specs.Net.{net_of, materials_of}
-use Rattle.flow_rules.specs.Steps.{AreInRange}
-use Rattle.flow_rules.specs.FeasibleSteps.{units_at, balance_steps}
-use Rattle.tree_rules.specs.Claim.{Network, IsFeasible, size_in}
+use Rattle.report_rules.specs.number_sets.Sets.{has}
+use Rattle.report_rules.proofs.number_sets.Cited.{has_below, AreBelow-listed}
+use Rattle.report_rules.specs.problem_rules.Problem.{Problem}
+use Rattle.report_rules.specs.pns_rules.Shape.{shape_of}
+use Rattle.report_rules.specs.pns_rules.Structure.{mats}
+use Rattle.report_rules.specs.flow_rules.Net.{net_of, materials_of}
+use Rattle.report_rules.specs.flow_rules.Steps.{AreInRange}
+use Rattle.report_rules.specs.flow_rules.FeasibleSteps.{units_at, balance_steps}
+use Rattle.report_rules.specs.tree_rules.Claim.{Network, IsFeasible, size_in}
 use Rattle.report_amounts.proofs.FlowLemmas.{material_in_range}
 
 pub material_known : (p : Problem) (w : Network) (j : ℕ)

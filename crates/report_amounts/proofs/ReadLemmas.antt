@@ -1,8 +1,9 @@
 -- A unit and a material that are read by number.
 use Rattle.std.proofs.Common.{◌≡◌, ℕ, zero, suc, ◌<◌, List, [], ◌∷◌, length, get_or, refl, ap, ◌∙◌}
 use Rattle.std.proofs.Common.{arith}
-use Rattle.problem_rules.specs.Problem.{Problem, Material, material_at, no_material, OperatingUnit}
-use Rattle.problem_rules.specs.Problem.{unit_at, no_unit}
+use Rattle.report_rules.specs.problem_rules.Problem.{Problem, Material, material_at, no_material}
+use Rattle.report_rules.specs.problem_rules.Problem.{OperatingUnit}
+use Rattle.report_rules.specs.problem_rules.Problem.{unit_at, no_unit}
 
 get_or-any : {X : Type 0} (xs : List X) (k : ℕ) (a b : X) → k < length xs
     → get_or xs k a ≡ get_or xs k b

@@ -3,7 +3,7 @@ use Rattle.std.proofs.Common.{◌≡◌, ℕ, ◌+◌, ◌<◌, List, [], ◌∷
 use Rattle.std.proofs.Common.{◌∙◌, pos, ℤ, cond}
 use Rattle.std.proofs.lemmas.List.{drop_more}
 use Rattle.std.proofs.lemmas.Bool.{eq-eqb, ne_eqb}
-use Rattle.flow_rules.specs.Net.{beside}
+use Rattle.report_rules.specs.flow_rules.Net.{beside}
 
 beside_nothing : (left : List ℕ) (u : ℕ) → beside left [] u ≡ pos 0
 beside_nothing [] u = refl

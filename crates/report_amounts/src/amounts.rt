@@ -1,19 +1,17 @@
 //! The numbers of a network's units, and their sums.
 ghost use Rattle.std.specs.Prelude.{◌≡◌, ◌<◌, ◌<ℤ◌, ℕ, pos, true, length};
-ghost use Rattle.integer_laws.specs.Range.{InRange};
-ghost use Rattle.number_sets.specs.Sets.{has};
-ghost use Rattle.problem_rules.specs.Problem.{unit_at};
-ghost use Rattle.flow_rules.specs.Net.{million};
+ghost use Rattle.report_rules.specs.integer_laws.Range.{InRange};
+ghost use Rattle.report_rules.specs.number_sets.Sets.{has};
+ghost use Rattle.report_rules.specs.problem_rules.Problem.{unit_at};
+ghost use Rattle.report_rules.specs.flow_rules.Net.{million};
 ghost use Rattle.report_rules.specs.Number.{sum_of};
 ghost use Rattle.report_rules.specs.Amounts.{quotient, sized, size, fixed, proportional, once};
 ghost use Rattle.report_rules.specs.Amounts.{investment, unit_total, made_rate, used_rate, made_by};
 ghost use Rattle.report_rules.specs.Amounts.{used_by, amount, unit_sum};
 
 use crate::number::Number;
-use branch_tree::Network;
-use flow_program::rate_at;
-use pns_problem::{OperatingUnit, Problem};
 use crate::size_at;
+use flow_evaluator::{Network, OperatingUnit, Problem, rate_at};
 use report_rules::UnitAmount;
 
 pub fn unit_of(problem: &Problem, u: u32) -> &OperatingUnit

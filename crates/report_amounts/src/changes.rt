@@ -2,10 +2,8 @@
 ghost use Rattle.std.specs.Prelude.{◌≡◌, ◌++◌, IfOk, OnOk, string_bytes};
 ghost use Rattle.report_rules.specs.Ranked.{with_word, signed_names, change_cell};
 
-use branch_tree::Network;
-use pns_problem::Problem;
+use flow_evaluator::{Network, Problem, UnitSet};
 use std::alloc::{AllocError, Global};
-use unit_sets::UnitSet;
 
 /// Appends a sign and a word, and before them a space if the text is not empty.
 pub fn push_word(text: &mut String, sign: &str, word: &str) -> Result<(), AllocError>

@@ -1,19 +1,17 @@
 //! The numbers of a network's materials, and the sums of their costs.
 ghost use Rattle.std.specs.Prelude.{◌≡◌, ◌<◌, ◌<ℤ◌, pos, neg_ℤ, true, length};
-ghost use Rattle.integer_laws.specs.Range.{InRange};
-ghost use Rattle.number_sets.specs.Sets.{has};
-ghost use Rattle.problem_rules.specs.Problem.{material_at};
-ghost use Rattle.flow_rules.specs.Net.{net_of, materials_of};
-ghost use Rattle.flow_rules.specs.Flows.{balance};
-ghost use Rattle.tree_rules.specs.Claim.{IsFeasible, size_in};
+ghost use Rattle.report_rules.specs.integer_laws.Range.{InRange};
+ghost use Rattle.report_rules.specs.number_sets.Sets.{has};
+ghost use Rattle.report_rules.specs.problem_rules.Problem.{material_at};
+ghost use Rattle.report_rules.specs.flow_rules.Net.{net_of, materials_of};
+ghost use Rattle.report_rules.specs.flow_rules.Flows.{balance};
+ghost use Rattle.report_rules.specs.tree_rules.Claim.{IsFeasible, size_in};
 ghost use Rattle.report_rules.specs.Amounts.{flowing, net, price, cost, part_of, cost_sum};
 
 use crate::amounts::{millionths, quotient};
 use crate::number::Number;
-use branch_tree::Network;
-use pgraph::Site;
-use pns_problem::{Material, Problem};
 use crate::{flow_of, materials_in};
+use flow_evaluator::{Material, Network, Problem, Site};
 use report_rules::CostPart;
 
 pub fn material_of(problem: &Problem, j: u32) -> &Material

@@ -1,17 +1,15 @@
 //! What a network makes of a material less what it uses of it.
 ghost use Rattle.std.specs.Prelude.{◌≡◌, ◌≢◌, ◌<◌, ◌+ℤ◌, ◌*ℤ◌, ℕ, pos, true, length};
-ghost use Rattle.integer_laws.specs.Range.{InRange};
-ghost use Rattle.number_sets.specs.Sets.{has};
-ghost use Rattle.flow_rules.specs.Net.{net_of};
-ghost use Rattle.flow_rules.specs.Flows.{balance};
-ghost use Rattle.flow_rules.specs.Steps.{AreInRange};
-ghost use Rattle.flow_rules.specs.FeasibleSteps.{units_at, balance_steps};
-ghost use Rattle.tree_rules.specs.Claim.{size_in};
+ghost use Rattle.report_rules.specs.integer_laws.Range.{InRange};
+ghost use Rattle.report_rules.specs.number_sets.Sets.{has};
+ghost use Rattle.report_rules.specs.flow_rules.Net.{net_of};
+ghost use Rattle.report_rules.specs.flow_rules.Flows.{balance};
+ghost use Rattle.report_rules.specs.flow_rules.Steps.{AreInRange};
+ghost use Rattle.report_rules.specs.flow_rules.FeasibleSteps.{units_at, balance_steps};
+ghost use Rattle.report_rules.specs.tree_rules.Claim.{size_in};
 
 use crate::sizes::size_at;
-use branch_tree::Network;
-use flow_program::rate_at;
-use pns_problem::Problem;
+use flow_evaluator::{Network, Problem, rate_at};
 
 /// What a unit of the size moves at the rate.
 pub fn moved_at(rate: i64, size: i128) -> i128

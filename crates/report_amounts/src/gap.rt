@@ -1,13 +1,13 @@
 //! The gap between the cost of a network and a lower bound.
 ghost use Rattle.std.specs.Prelude.{◌≡◌, ◌++◌, pos, neg_ℤ, unsigned_abs, OnOk, string_bytes};
-ghost use Rattle.integer_laws.specs.Range.{InRange};
+ghost use Rattle.report_rules.specs.integer_laws.Range.{InRange};
 ghost use Rattle.report_rules.specs.Amounts.{quotient};
 ghost use Rattle.report_rules.specs.Number.{times};
 ghost use Rattle.report_rules.specs.Lower.{side, gap, gap_text};
 
 use crate::amounts::quotient;
 use crate::number::Number;
-use branch_tree::Network;
+use flow_evaluator::Network;
 use report_rules::LowerBound;
 use std::alloc::AllocError;
 

@@ -57,6 +57,10 @@ pub use amounts::{amount, share_of, size, unit_of, unit_sum};
 pub use changes::{change_of, push_word};
 pub use costs::{cost, cost_sum, flow_at, material_of, net, price};
 pub use down::push_six_digits_down;
+pub use flow_evaluator::{
+    Graph, Kind, MatSet, Material, Network, OperatingUnit, Problem, Site, Term, UnitSet,
+    checked_product, rate_at,
+};
 pub use flows::{flow_of, moved_at};
 pub use gap::{gap_above, push_gap};
 pub use marginals::{Marginals, Multipliers};
@@ -66,6 +70,10 @@ pub use number::Number;
 pub use places::push_places;
 pub use quotient::push_quotient;
 pub use ranks::{above_first, place_of, share_above};
+pub use report_rules::{
+    CostPart, HeadedVerdict, LowerBound, Measure, RankVerdict, Role, Sort, UnitAmount, Verdict,
+    valid_is_proper,
+};
 pub use signed::push_signed;
 pub use six::{places_behind, push_six_digits, scale_of};
 pub use sizes::size_at;

@@ -1,18 +1,15 @@
 //! What one more of a material costs, and what one more of a unit's size saves.
 ghost use Rattle.std.specs.Prelude.{◌≡◌, ◌<◌, ◌≤ℤ◌, ◌*ℤ◌, pos, neg_ℤ, length, None, Some};
-ghost use Rattle.integer_laws.specs.Range.{InRange, AllInRange};
-ghost use Rattle.problem_rules.specs.Problem.{unit_at};
-ghost use Rattle.flow_rules.specs.Net.{beside, million};
+ghost use Rattle.report_rules.specs.integer_laws.Range.{InRange, AllInRange};
+ghost use Rattle.report_rules.specs.problem_rules.Problem.{unit_at};
+ghost use Rattle.report_rules.specs.flow_rules.Net.{beside, million};
 ghost use Rattle.report_rules.specs.Amounts.{quotient, price};
 ghost use Rattle.report_rules.specs.Marginal as rules;
 
 use crate::amounts::{millionths, quotient, unit_of, year};
 use crate::number::Number;
-use branch_tree::Scaled;
-use flow_program::rate_at;
-use pns_problem::Problem;
+use flow_evaluator::{MatSet, Problem, Scaled, rate_at};
 use std::marker::Model;
-use unit_sets::MatSet;
 
 /// Materials, and a multiplier for each, in rising order of materials.
 #[derive(Drop)]

@@ -1,26 +1,24 @@
 //! The table of a network's materials.
 ghost use Rattle.std.specs.Prelude.{◌≡◌, ◌<◌, ◌++◌, ℕ, List, Some, pos, true, IfOk, OnOk, length};
 ghost use Rattle.csv.specs.Writing.{default_writer, row_text};
-ghost use Rattle.number_sets.specs.Sets.{has};
-ghost use Rattle.pns_problem.specs.Kind.{kind_of};
-ghost use Rattle.text_rules.specs.Canonical.{kind_word};
-ghost use Rattle.flow_rules.specs.Net.{net_of, materials_of};
-ghost use Rattle.flow_rules.specs.Steps.{AreInRange};
-ghost use Rattle.flow_rules.specs.FeasibleSteps.{units_at, balance_steps, feasible_steps};
-ghost use Rattle.tree_rules.specs.Claim.{size_in};
-ghost use Rattle.tree_rules.specs.Known.{AreUnits};
+ghost use Rattle.report_rules.specs.number_sets.Sets.{has};
+ghost use Rattle.flow_evaluator.specs.pns_problem.Kind.{kind_of};
+ghost use Rattle.report_rules.specs.text_rules.Canonical.{kind_word};
+ghost use Rattle.report_rules.specs.flow_rules.Net.{net_of, materials_of};
+ghost use Rattle.report_rules.specs.flow_rules.Steps.{AreInRange};
+ghost use Rattle.report_rules.specs.flow_rules.FeasibleSteps.{units_at, balance_steps};
+ghost use Rattle.report_rules.specs.flow_rules.FeasibleSteps.{feasible_steps};
+ghost use Rattle.report_rules.specs.tree_rules.Claim.{size_in};
+ghost use Rattle.report_rules.specs.tree_rules.Known.{AreUnits};
 ghost use Rattle.report_rules.specs.Table.{IsMaterialRow, IsMaterialTable};
 ghost use Rattle.report_amounts.specs.Written.{HasWritten};
 
 use crate::flows::flow_of;
 use crate::rows::{headed, push_row, written};
 use crate::sizes::quotient;
-use branch_tree::Network;
 use csv::Writer;
-use pgraph::Site;
-use pns_problem::{Kind, Problem};
+use flow_evaluator::{Kind, MatSet, Network, Problem, Site};
 use std::alloc::{AllocError, Global};
-use unit_sets::MatSet;
 
 /// The materials of the network.
 pub fn materials_in(site: &Site<'_>, network: &Network) -> MatSet

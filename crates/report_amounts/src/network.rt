@@ -1,21 +1,17 @@
 //! The marginals of a network.
 ghost use Rattle.std.specs.Prelude.{◌≡◌, ◌<◌, ℕ, ℤ, true, length, IfOk};
-ghost use Rattle.number_sets.specs.Sets.{has};
-ghost use Rattle.flow_rules.specs.Net.{net_of};
-ghost use Rattle.flow_rules.specs.Flows.{IsFlows};
-ghost use Rattle.tree_rules.specs.Claim.{IsFeasible};
-ghost use Rattle.tree_rules.specs.Claim as claims;
-ghost use Rattle.tree_rules.specs.LeastFlows.{IsLeastFlows};
+ghost use Rattle.report_rules.specs.number_sets.Sets.{has};
+ghost use Rattle.report_rules.specs.flow_rules.Net.{net_of};
+ghost use Rattle.report_rules.specs.flow_rules.Flows.{IsFlows};
+ghost use Rattle.report_rules.specs.tree_rules.Claim.{IsFeasible};
+ghost use Rattle.report_rules.specs.tree_rules.Claim as claims;
+ghost use Rattle.report_rules.specs.tree_rules.LeastFlows.{IsLeastFlows};
 ghost use Rattle.report_rules.specs.Marginal.{AreMarginals};
 ghost use Rattle.flow_evaluator.specs.Answers.{AnswersFor};
 
-use branch_tree::{Network, Scaled};
-use flow_program::sets_of;
-use pgraph::Site;
 use crate::{Marginals, Multipliers};
+use flow_evaluator::{Network, Scaled, Site, StructureFlows, UnitSet, flows_of, node_of, sets_of};
 use std::alloc::{AllocError, Global};
-use flow_evaluator::{StructureFlows, flows_of, node_of};
-use unit_sets::UnitSet;
 
 /// The marginals by multipliers of least flows of these units.
 fn least(site: &Site<'_>, set: UnitSet, bound: Scaled) -> Marginals

@@ -1,14 +1,14 @@
 //! Fractions, or none if a number overflows.
 ghost use Rattle.std.specs.Prelude.{◌≡◌, ◌++◌, ◌∷◌, [], ◌<ℤ◌, ◌*ℤ◌, ◌≤◌, ◌^◌, ◌*◌, ◌+◌, ◌/◌, ◌%◌};
 ghost use Rattle.std.specs.Prelude.{None, Some, pos, decimal, OnOk, option_map, string_bytes};
-ghost use Rattle.integer_laws.specs.Range.{InRange};
+ghost use Rattle.report_rules.specs.integer_laws.Range.{InRange};
 ghost use Rattle.report_rules.specs.Number.{of, nothing, lowest, kept, times, plus, above, below};
 ghost use Rattle.report_rules.specs.Number.{half_of, doubled_text, number_with, places_of};
 ghost use Rattle.report_rules.specs.Number.{number_text, thousandths_text, share_text};
 ghost use Rattle.report_rules.specs.Lower.{rounded_up, tenths_text, gap_words};
 
 use crate::{places_behind, push_signed, scale_of};
-use exact_numbers::Frac;
+use flow_evaluator::Frac;
 use std::alloc::AllocError;
 use std::marker::Model;
 

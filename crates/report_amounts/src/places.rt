@@ -1,6 +1,6 @@
 //! Digits after the point.
 ghost use Rattle.std.specs.Prelude.{◌≡◌, ◌++◌, ◌^◌, OnOk, string_bytes};
-ghost use Rattle.text_rules.specs.Printed.{digits, places};
+ghost use Rattle.report_rules.specs.text_rules.Printed.{digits, places};
 ghost use Rattle.report_rules.specs.Decimal.{scaled_text};
 
 use std::alloc::AllocError;

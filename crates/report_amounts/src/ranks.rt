@@ -1,13 +1,12 @@
 //! The place of a network in a ranking, and what it costs more than the first.
 ghost use Rattle.std.specs.Prelude.{◌≡◌, ◌<◌, ◌+◌, ◌^◌, ◌*ℤ◌, pos, neg_ℤ, unsigned_abs};
-ghost use Rattle.integer_laws.specs.Range.{InRange};
+ghost use Rattle.report_rules.specs.integer_laws.Range.{InRange};
 ghost use Rattle.report_rules.specs.Amounts.{quotient};
 ghost use Rattle.report_rules.specs.Ranked.{more_than, above_first, share_above};
 
 use crate::amounts::quotient;
 use crate::number::Number;
-use branch_tree::Network;
-use pns_problem::Problem;
+use flow_evaluator::{Network, Problem};
 
 /// The place of the network of this number, counted from 0.
 pub fn place_of(at: usize) -> u32

@@ -1,11 +1,10 @@
 //! The sizes of a network's units.
 ghost use Rattle.std.specs.Prelude.{◌≡◌, IfOk, string_bytes};
-ghost use Rattle.integer_laws.specs.Range.{InRange};
-ghost use Rattle.tree_rules.specs.Claim.{size_in};
+ghost use Rattle.report_rules.specs.integer_laws.Range.{InRange};
+ghost use Rattle.report_rules.specs.tree_rules.Claim.{size_in};
 ghost use Rattle.report_rules.specs.Table.{IsQuotient};
 
-use branch_tree::Network;
-use exact_numbers::Frac;
+use flow_evaluator::{Frac, Network};
 use std::alloc::{AllocError, Global};
 
 /// The size of a unit in millionths over the network's `d`, or 0 if it is not in the network.

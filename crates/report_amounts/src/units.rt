@@ -2,15 +2,14 @@
 ghost use Rattle.std.specs.Prelude.{◌≡◌, ◌<◌, ◌++◌, ℕ, List, Some, IfOk, OnOk, length};
 ghost use Rattle.std.specs.Prelude.{string_bytes};
 ghost use Rattle.csv.specs.Writing.{default_writer, row_text};
-ghost use Rattle.tree_rules.specs.Known.{AreUnits};
+ghost use Rattle.report_rules.specs.tree_rules.Known.{AreUnits};
 ghost use Rattle.report_rules.specs.Table.{IsUnitRow, IsUnitTable};
 ghost use Rattle.report_amounts.specs.Written.{HasWritten};
 
 use crate::rows::{headed, push_row, written};
 use crate::sizes::{quotient, size_at};
-use branch_tree::Network;
 use csv::Writer;
-use pns_problem::Problem;
+use flow_evaluator::{Network, Problem};
 use std::alloc::{AllocError, Global};
 
 /// Writes the row of one unit.

@@ -1,11 +1,11 @@
 -- What is said of a tree that may have a head: a head without lines changes nothing.
 use Rattle.std.proofs.Common.{◌≡◌, true, false, ℕ, List, [], ◌∷◌}
-use Rattle.problem_rules.specs.Problem.{Problem}
-use Rattle.tree_rules.specs.Claim.{Claim}
-use Rattle.tree_rules.specs.Accepted.{Tree}
-use Rattle.tree_rules.specs.Head.{HeadLine}
-use Rattle.report_rules.specs.HeadedVerdict.{is_plain}
-use Rattle.studio_rules.specs.Json.{JsonSays, JsonSaysBy, HeadedJsonSays}
+use Rattle.rank_text.specs.problem_rules.Problem.{Problem}
+use Rattle.rank_text.specs.tree_rules.Claim.{Claim}
+use Rattle.rank_text.specs.tree_rules.Accepted.{Tree}
+use Rattle.rank_text.specs.tree_rules.Head.{HeadLine}
+use Rattle.json_text.specs.report_rules.HeadedVerdict.{is_plain}
+use Rattle.network_commands.specs.studio_rules.Json.{JsonSays, JsonSaysBy, HeadedJsonSays}
 
 pub plain_says : (p : Problem) (claim : Claim) (head : List HeadLine) (tree : Tree)
     (lines : List (List ℕ)) → is_plain head ≡ true → JsonSays p claim tree lines

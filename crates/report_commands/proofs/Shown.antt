@@ -1,33 +1,35 @@
 -- What is shown of a certificate.
 use Rattle.std.proofs.Common.{◌≡◌, ℕ, List, inl, inr}
-use Rattle.problem_rules.specs.Problem.{Problem}
-use Rattle.problem_rules.specs.Validity.{IsValid}
-use Rattle.tree_rules.specs.Claim.{Claim}
-use Rattle.tree_rules.specs.Accepted.{Tree, first_node}
-use Rattle.tree_rules.specs.Tail.{Tail, whole, spent, past}
-use Rattle.tree_laws.specs.Laws.{AcceptedIsOptimal}
-use Rattle.tree_rules.specs.Head.{HeadLine}
-use Rattle.tree_text_rules.specs.Read.{HeadedCertificate}
-use Rattle.report_rules.specs.declared.verdict.Verdict.{Verdict}
-use Rattle.report_rules.specs.declared.verdict.Verdict.TheVariants.{Proved, Unfinished, Fails}
-use Rattle.report_rules.specs.declared.headed_verdict.HeadedVerdict.{HeadedVerdict}
-use Rattle.report_rules.specs.declared.headed_verdict.HeadedVerdict.TheVariants as headed
-use Rattle.report_rules.specs.Measures.{Measures, measures_of}
-use Rattle.report_rules.specs.Verdict.{IsVerdict}
-use Rattle.report_rules.specs.HeadedVerdict.{IsHeadedVerdict}
-use Rattle.abb_search.specs.declared.outcome.Found.{Found}
-use Rattle.abb_search.specs.Found.{IsFound}
-use Rattle.studio_rules.specs.Lines.{text_of}
-use Rattle.studio_rules.specs.Ending.{Tells, IsUnfinished}
-use Rattle.studio_rules.specs.Solve.{Holds, Solves, SolvesBy, status_of}
-use Rattle.studio_rules.specs.Report.{VerdictSays, HeadedVerdictSays}
-use Rattle.studio_rules.specs.Show.{HeadedShows, PlainShowWork, HeadedShowWork, ShowWork}
-use Rattle.studio_rules.specs.Show.{SaysProved, ShownIsProved}
-use Rattle.studio_rules.specs.declared.status.Status.{Status}
-use Rattle.studio_rules.specs.declared.status.Status.TheVariants.{Done, Past, Spent}
-use Rattle.command_files.proofs.Ending.{GoesOut}
-use Rattle.command_files.proofs.Put.{IsText}
-use Rattle.searches.proofs.FoundTexts.{holds}
+use Rattle.rank_text.specs.problem_rules.Problem.{Problem}
+use Rattle.rank_text.specs.problem_rules.Validity.{IsValid}
+use Rattle.rank_text.specs.tree_rules.Claim.{Claim}
+use Rattle.rank_text.specs.tree_rules.Accepted.{Tree, first_node}
+use Rattle.rank_text.specs.tree_rules.Tail.{Tail, whole, spent, past}
+use Rattle.rank_text.specs.tree_laws.Laws.{AcceptedIsOptimal}
+use Rattle.rank_text.specs.tree_rules.Head.{HeadLine}
+use Rattle.rank_text.specs.tree_text_rules.Read.{HeadedCertificate}
+use Rattle.json_text.specs.report_rules.declared.verdict.Verdict.{Verdict}
+use Rattle.json_text.specs.report_rules.declared.verdict.Verdict.TheVariants.{Proved, Unfinished}
+use Rattle.json_text.specs.report_rules.declared.verdict.Verdict.TheVariants.{Fails}
+use Rattle.json_text.specs.report_rules.declared.headed_verdict.HeadedVerdict.{HeadedVerdict}
+use Rattle.json_text.specs.report_rules.declared.headed_verdict.HeadedVerdict.TheVariants as headed
+use Rattle.json_text.specs.report_rules.Measures.{Measures, measures_of}
+use Rattle.json_text.specs.report_rules.Verdict.{IsVerdict}
+use Rattle.json_text.specs.report_rules.HeadedVerdict.{IsHeadedVerdict}
+use Rattle.searches.specs.abb_search.declared.outcome.Found.{Found}
+use Rattle.searches.specs.abb_search.Found.{IsFound}
+use Rattle.network_commands.specs.studio_rules.Lines.{text_of}
+use Rattle.network_commands.specs.studio_rules.Ending.{Tells, IsUnfinished}
+use Rattle.network_commands.specs.studio_rules.Solve.{Holds, Solves, SolvesBy, status_of}
+use Rattle.network_commands.specs.studio_rules.Report.{VerdictSays, HeadedVerdictSays}
+use Rattle.network_commands.specs.studio_rules.Show.{HeadedShows, PlainShowWork, HeadedShowWork}
+use Rattle.network_commands.specs.studio_rules.Show.{ShowWork}
+use Rattle.network_commands.specs.studio_rules.Show.{SaysProved, ShownIsProved}
+use Rattle.network_commands.specs.studio_rules.declared.status.Status.{Status}
+use Rattle.network_commands.specs.studio_rules.declared.status.Status.TheVariants.{Done, Past}
+use Rattle.network_commands.specs.studio_rules.declared.status.Status.TheVariants.{Spent}
+use Rattle.network_commands.proofs.command_files.Cited.{GoesOut, IsText}
+use Rattle.searches.proofs.Cited.{holds}
 use Rattle.report_commands.specs.Shown.{FoundShows}
 
 pub unfinished_goes : (status : Status) → IsUnfinished status → GoesOut status

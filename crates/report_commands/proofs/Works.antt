@@ -2,39 +2,40 @@
 use Rattle.std.proofs.Common.{◌≡◌, ◌∷◌, [], true, false, refl, inl, sym, subst, Bool, ℕ, List}
 use Rattle.std.proofs.Common.{length, arith}
 use Rattle.std.specs.Borrow.{Bor}
-use Rattle.problem_rules.specs.Problem.{Problem}
-use Rattle.tree_rules.specs.Claim.{Network}
-use Rattle.tree_text_rules.specs.Read.{HeadedCertificate}
-use Rattle.rank_rules.specs.Headed.{is_ranking}
-use Rattle.rank_rules.specs.Networks.{ArePassing}
-use Rattle.rank_rules.specs.Ranked.{NetworkIsFault}
-use Rattle.rank_rules.specs.Text.{Text, ranking_of}
-use Rattle.rank_rules.specs.declared.why.RankWhy.{RankWhy}
-use Rattle.report_tables.specs.First.{IsFirstFeasible}
-use Rattle.report_rules.specs.Measures.{Measures}
-use Rattle.report_rules.specs.RankVerdict.{IsRankVerdict}
-use Rattle.report_rules.specs.declared.rank_verdict.RankVerdict.{RankVerdict}
-use Rattle.report_rules.specs.RangeTable.{is_table}
+use Rattle.rank_text.specs.problem_rules.Problem.{Problem}
+use Rattle.rank_text.specs.tree_rules.Claim.{Network}
+use Rattle.rank_text.specs.tree_text_rules.Read.{HeadedCertificate}
+use Rattle.rank_text.specs.rank_rules.Headed.{is_ranking}
+use Rattle.rank_text.specs.rank_rules.Networks.{ArePassing}
+use Rattle.rank_text.specs.rank_rules.Ranked.{NetworkIsFault}
+use Rattle.rank_text.specs.rank_rules.Text.{Text, ranking_of}
+use Rattle.rank_text.specs.rank_rules.declared.why.RankWhy.{RankWhy}
+use Rattle.json_text.specs.report_tables.First.{IsFirstFeasible}
+use Rattle.json_text.specs.report_rules.Measures.{Measures}
+use Rattle.json_text.specs.report_rules.RankVerdict.{IsRankVerdict}
+use Rattle.json_text.specs.report_rules.declared.rank_verdict.RankVerdict.{RankVerdict}
+use Rattle.json_text.specs.report_rules.RangeTable.{is_table}
 use Rattle.report_commands.specs.Works.{TreeWork, RankWork, VerdictWork, RankLines, FormSays}
 use Rattle.report_commands.specs.declared.form.Form.{Form}
 use Rattle.report_commands.specs.declared.form.Form.TheVariants.{Report, Json, Graph}
 use Rattle.report_commands.specs.declared.form.Reader.{Reader}
 use Rattle.report_commands.specs.declared.form.Reader.TheVariants.{People, Programs}
-use Rattle.studio_rules.specs.Network.{OnNetwork}
-use Rattle.studio_rules.specs.Graph.{AreSceneLines, NetworkGraphWork}
-use Rattle.studio_rules.specs.RankGraph.{DrawsFirst}
-use Rattle.studio_rules.specs.Json.{JsonWork}
-use Rattle.studio_rules.specs.RankJson.{RankJsonWork}
-use Rattle.studio_rules.specs.RangesJson.{TableSays, AnySays}
-use Rattle.studio_rules.specs.Reading.{IsLong}
-use Rattle.studio_rules.specs.RankWords.{network_line}
-use Rattle.studio_rules.specs.Report.{ReportWork}
-use Rattle.studio_rules.specs.TextFile.{by_kind, RankSays, EitherSays}
-use Rattle.studio_rules.specs.TreeFile.{tree_limit}
-use Rattle.studio_rules.specs.HeadedFile.{HeadedSays}
-use Rattle.studio_rules.specs.declared.scene.Scene.{Scene}
-use Rattle.studio_rules.specs.declared.status.Status.{Status}
-use Rattle.studio_rules.specs.declared.status.Status.TheVariants.{Done, BadClaim, TooLong}
+use Rattle.network_commands.specs.studio_rules.Network.{OnNetwork}
+use Rattle.network_commands.specs.studio_rules.Graph.{AreSceneLines, NetworkGraphWork}
+use Rattle.network_commands.specs.studio_rules.RankGraph.{DrawsFirst}
+use Rattle.network_commands.specs.studio_rules.Json.{JsonWork}
+use Rattle.network_commands.specs.studio_rules.RankJson.{RankJsonWork}
+use Rattle.network_commands.specs.studio_rules.RangesJson.{TableSays, AnySays}
+use Rattle.network_commands.specs.studio_rules.Reading.{IsLong}
+use Rattle.network_commands.specs.studio_rules.RankWords.{network_line}
+use Rattle.network_commands.specs.studio_rules.Report.{ReportWork}
+use Rattle.network_commands.specs.studio_rules.TextFile.{by_kind, RankSays, EitherSays}
+use Rattle.network_commands.specs.studio_rules.TreeFile.{tree_limit}
+use Rattle.network_commands.specs.studio_rules.HeadedFile.{HeadedSays}
+use Rattle.network_commands.specs.studio_rules.declared.scene.Scene.{Scene}
+use Rattle.network_commands.specs.studio_rules.declared.status.Status.{Status}
+use Rattle.network_commands.specs.studio_rules.declared.status.Status.TheVariants.{Done, BadClaim}
+use Rattle.network_commands.specs.studio_rules.declared.status.Status.TheVariants.{TooLong}
 
 -- the first of networks that pass is feasible
 pub first_feasible : (distinct : Bool) (p : Problem) (ws : List Network)

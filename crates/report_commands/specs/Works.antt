@@ -1,27 +1,27 @@
 -- What is printed of a tree and of a ranking, in each form.
 use Rattle.std.specs.Prelude.{ℕ, List}
-use Rattle.text_rules.specs.Outside.{Told}
-use Rattle.problem_rules.specs.Problem.{Problem}
-use Rattle.tree_text_rules.specs.Read.{HeadedCertificate}
-use Rattle.rank_rules.specs.Ranked.{Ranking}
-use Rattle.rank_rules.specs.Text.{Text}
-use Rattle.report_rules.specs.declared.rank_verdict.RankVerdict.{RankVerdict}
+use Rattle.rank_text.specs.text_rules.Outside.{Told}
+use Rattle.rank_text.specs.problem_rules.Problem.{Problem}
+use Rattle.rank_text.specs.tree_text_rules.Read.{HeadedCertificate}
+use Rattle.rank_text.specs.rank_rules.Ranked.{Ranking}
+use Rattle.rank_text.specs.rank_rules.Text.{Text}
+use Rattle.json_text.specs.report_rules.declared.rank_verdict.RankVerdict.{RankVerdict}
 use Rattle.report_commands.specs.declared.form.Form.{Form}
 use Rattle.report_commands.specs.declared.form.Form.TheVariants as forms
 use Rattle.report_commands.specs.declared.form.Reader.{Reader}
 use Rattle.report_commands.specs.declared.form.Reader.TheVariants as readers
-use Rattle.studio_rules.specs.HeadedFile.{AnyHead}
-use Rattle.studio_rules.specs.Network.{OnNetwork}
-use Rattle.studio_rules.specs.Graph.{NetworkGraphWork}
-use Rattle.studio_rules.specs.RankGraph.{RankGraphWork}
-use Rattle.studio_rules.specs.Report.{ReportWork}
-use Rattle.studio_rules.specs.Json.{JsonWork}
-use Rattle.studio_rules.specs.RankReport.{RankReportWork, RankVerdictSays}
-use Rattle.studio_rules.specs.RankJson.{RankJsonWork, RankFactsSay}
-use Rattle.studio_rules.specs.Reading.{OnSecond}
-use Rattle.studio_rules.specs.TextFile.{EitherSays}
-use Rattle.studio_rules.specs.RangesJson.{AnySays}
-use Rattle.studio_rules.specs.declared.status.Status.{Status}
+use Rattle.network_commands.specs.studio_rules.HeadedFile.{AnyHead}
+use Rattle.network_commands.specs.studio_rules.Network.{OnNetwork}
+use Rattle.network_commands.specs.studio_rules.Graph.{NetworkGraphWork}
+use Rattle.network_commands.specs.studio_rules.RankGraph.{RankGraphWork}
+use Rattle.network_commands.specs.studio_rules.Report.{ReportWork}
+use Rattle.network_commands.specs.studio_rules.Json.{JsonWork}
+use Rattle.network_commands.specs.studio_rules.RankReport.{RankReportWork, RankVerdictSays}
+use Rattle.network_commands.specs.studio_rules.RankJson.{RankJsonWork, RankFactsSay}
+use Rattle.network_commands.specs.studio_rules.Reading.{OnSecond}
+use Rattle.network_commands.specs.studio_rules.TextFile.{EitherSays}
+use Rattle.network_commands.specs.studio_rules.RangesJson.{AnySays}
+use Rattle.network_commands.specs.studio_rules.declared.status.Status.{Status}
 
 abbrev pub TreeWork : Form → Problem → HeadedCertificate → Status → List (List ℕ) → Type 0
 TreeWork (forms.Report ms) = ReportWork ms.now

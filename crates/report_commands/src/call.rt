@@ -1,27 +1,25 @@
 //! The commands `report`, `json`, and `graph` with a second file.
 ghost use Rattle.std.specs.Prelude.{◌≡◌};
 ghost use Rattle.report_commands.specs.Works.{OnForm};
-ghost use Rattle.studio_rules.specs.Reading.{TwoFilesSay, TwoTextsSay};
-ghost use Rattle.studio_rules.specs.HeadedFile.{AnyHead};
-ghost use Rattle.studio_rules.specs.Network.{OnNetwork};
-ghost use Rattle.studio_rules.specs.Graph.{NetworkGraphWork};
-ghost use Rattle.studio_rules.specs.Report.{ReportWork};
-ghost use Rattle.studio_rules.specs.RankReport.{RankReportWork, ReportsOn};
-ghost use Rattle.studio_rules.specs.RankGraph.{RankGraphWork};
-ghost use Rattle.studio_rules.specs.RangesJson.{OnAny};
-ghost use Rattle.studio_rules.specs.TextFile.{OnEither};
-ghost use Rattle.studio_rules.specs.Ending.{Ends, Says};
-ghost use Rattle.studio_rules.specs.Keeps.{Keeps};
+ghost use Rattle.network_commands.specs.studio_rules.Reading.{TwoFilesSay, TwoTextsSay};
+ghost use Rattle.network_commands.specs.studio_rules.HeadedFile.{AnyHead};
+ghost use Rattle.network_commands.specs.studio_rules.Network.{OnNetwork};
+ghost use Rattle.network_commands.specs.studio_rules.Graph.{NetworkGraphWork};
+ghost use Rattle.network_commands.specs.studio_rules.Report.{ReportWork};
+ghost use Rattle.network_commands.specs.studio_rules.RankReport.{RankReportWork, ReportsOn};
+ghost use Rattle.network_commands.specs.studio_rules.RankGraph.{RankGraphWork};
+ghost use Rattle.network_commands.specs.studio_rules.RangesJson.{OnAny};
+ghost use Rattle.network_commands.specs.studio_rules.TextFile.{OnEither};
+ghost use Rattle.network_commands.specs.studio_rules.Ending.{Ends, Says};
+ghost use Rattle.network_commands.specs.studio_rules.Keeps.{Keeps};
 
 use crate::form::Form;
 use crate::text::say_any;
-use command_files::{bytes_of, plant_of, problem_of};
-use command_files::say::say_memory;
-use pns_io::{Outputs, Shelf, Sink};
-use pns_problem::Problem;
-use report_tables::Measures;
+use json_text::Measures;
+use network_commands::say::say_memory;
+use network_commands::{Scene, Status, bytes_of, plant_of, problem_of};
+use rank_text::{Outputs, Problem, Shelf, Sink};
 use std::alloc::Global;
-use studio_rules::{Scene, Status};
 
 /// The most bytes of a file that has a tree, a ranking or a table.
 const TEXT_LIMIT: u64 = 268_435_456;

@@ -1,19 +1,14 @@
 //! The graph of a ranking.
 ghost use Rattle.std.specs.Prelude.{[]};
-ghost use Rattle.rank_rules.specs.Networks.{ArePassing};
-ghost use Rattle.studio_rules.specs.RankGraph.{RankGraphWork};
-ghost use Rattle.studio_rules.specs.Ending.{Ends, Tells};
+ghost use Rattle.rank_text.specs.rank_rules.Networks.{ArePassing};
+ghost use Rattle.network_commands.specs.studio_rules.RankGraph.{RankGraphWork};
+ghost use Rattle.network_commands.specs.studio_rules.Ending.{Ends, Tells};
 
 use crate::ranking::say_network;
-use command_files::say::say_told;
-use network_commands::{list_graph, say_refused};
-use pgraph::Site;
-use pns_io::{Outputs, Sink};
-use rank_check::judge_networks;
-use rank_check::RankText;
+use network_commands::say::say_told;
+use network_commands::{Scene, Status, list_graph, say_refused};
+use rank_text::{Outputs, RankText, Sink, Site, Why, judge_networks};
 use std::alloc::Global;
-use studio_rules::{Scene, Status};
-use tree_rules::Why;
 
 /// Prints the graph of this scene with the first network in it, and all as a table; or that there
 /// is none.

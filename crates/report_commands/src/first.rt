@@ -1,12 +1,10 @@
 //! The marginals of the first network of a ranking.
 ghost use Rattle.std.specs.Prelude.{IfOk};
-ghost use Rattle.report_rules.specs.Marginal.{AreFirstMarginals};
-ghost use Rattle.report_tables.specs.First.{IsFirstFeasible};
+ghost use Rattle.json_text.specs.report_rules.Marginal.{AreFirstMarginals};
+ghost use Rattle.json_text.specs.report_tables.First.{IsFirstFeasible};
 
-use branch_tree::Network;
-use report_amounts::marginals_of;
-use pgraph::Site;
-use report_amounts::Marginals;
+use json_text::{Marginals, marginals_of};
+use rank_text::{Network, Site};
 use std::alloc::{AllocError, Global};
 
 /// The marginals of the first network, none if there is no network.

@@ -1,5 +1,5 @@
-use report_tables::Measures;
-use studio_rules::Scene;
+use json_text::Measures;
+use network_commands::Scene;
 
 /// What is printed of a tree or of a ranking.
 #[derive(Clone, Copy)]

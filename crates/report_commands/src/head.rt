@@ -1,13 +1,12 @@
 //! The members with the verdict and the claim.
 ghost use Rattle.std.specs.Prelude.{◌≡◌, IfOk, codes};
-ghost use Rattle.branch_tree.specs.View.{claim_of};
-ghost use Rattle.report_rules.specs.Json.{member};
-ghost use Rattle.studio_rules.specs.Json as rules;
+ghost use Rattle.rank_text.specs.branch_tree.View.{claim_of};
+ghost use Rattle.json_text.specs.report_rules.Json.{member};
+ghost use Rattle.network_commands.specs.studio_rules.Json as rules;
 
-use branch_tree::Claim;
-use json_text::Json;
-use command_files::why_word;
-use report_rules::Verdict;
+use json_text::{Json, Verdict};
+use network_commands::why_word;
+use rank_text::Claim;
 use std::alloc::{AllocError, Global};
 
 pub(crate) fn verdict_word(verdict: Verdict) -> &'static str

@@ -1,26 +1,22 @@
 //! The object of a tree that may have a head.
 ghost use Rattle.std.specs.Prelude.{◌≡◌, ◌<◌, ◌^◌, ℕ, List, true, false, length, IfOk, IfErr};
 ghost use Rattle.std.specs.Prelude.{codes};
-ghost use Rattle.tree_rules.specs.Claim.{ClaimPasses};
-ghost use Rattle.branch_tree.specs.View.{claim_of};
-ghost use Rattle.report_rules.specs.Json.{member, null};
-ghost use Rattle.report_rules.specs.HeadedVerdict.{is_plain};
-ghost use Rattle.studio_rules.specs.Lines.{text_of};
-ghost use Rattle.studio_rules.specs.Json as rules;
-ghost use Rattle.studio_rules.specs.Json.{HeadedFactsSay, JsonSays, JsonSaysBy, HeadedJsonSays};
-ghost use Rattle.verdicts.specs.Unjudged.{IsUnjudged, IsUnjudgedIf};
+ghost use Rattle.rank_text.specs.tree_rules.Claim.{ClaimPasses};
+ghost use Rattle.rank_text.specs.branch_tree.View.{claim_of};
+ghost use Rattle.json_text.specs.report_rules.Json.{member, null};
+ghost use Rattle.json_text.specs.report_rules.HeadedVerdict.{is_plain};
+ghost use Rattle.network_commands.specs.studio_rules.Lines.{text_of};
+ghost use Rattle.network_commands.specs.studio_rules.Json as rules;
+ghost use Rattle.network_commands.specs.studio_rules.Json.{HeadedFactsSay, JsonSays, JsonSaysBy};
+ghost use Rattle.network_commands.specs.studio_rules.Json.{HeadedJsonSays};
+ghost use Rattle.network_commands.specs.verdicts.Unjudged.{IsUnjudged, IsUnjudgedIf};
 
 use crate::head::claim_word;
 use crate::json_text::{json_text, text_behind};
-use branch_tree::{Claim, Tree};
-use branch_tree::Head;
-use json_text::Json;
-use json_text::text_member;
-use pgraph::Site;
-use command_files::{line_word, why_word};
-use report_rules::HeadedVerdict;
+use json_text::{HeadedVerdict, Json, text_member};
+use network_commands::{Unjudged, headed_verdict_of, is_plain, line_word, verdict_of, why_word};
+use rank_text::{Claim, Head, Site, Tree};
 use std::alloc::{AllocError, Global};
-use verdicts::{Unjudged, headed_verdict_of, is_plain, verdict_of};
 
 fn headed_word(verdict: HeadedVerdict) -> &'static str
     ensures { result.now ≡ rules.headed_word verdict }

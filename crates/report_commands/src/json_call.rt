@@ -1,19 +1,14 @@
 //! The object of a tree.
 ghost use Rattle.std.specs.Prelude.{◌<◌, ◌^◌, length};
-ghost use Rattle.tree_reading.specs.Said.{said_by};
-ghost use Rattle.studio_rules.specs.Json.{JsonWork};
-ghost use Rattle.studio_rules.specs.Ending.{Ends, Tells};
+ghost use Rattle.rank_text.specs.tree_reading.Said.{said_by};
+ghost use Rattle.network_commands.specs.studio_rules.Json.{JsonWork};
+ghost use Rattle.network_commands.specs.studio_rules.Ending.{Ends, Tells};
 
 use crate::headed::object_of;
-use command_files::say::{say_memory, say_text};
-use network_commands::say_refused;
-use pgraph::{Graph, Site};
-use pns_io::{Outputs, Sink};
-use pns_problem::Problem;
+use network_commands::say::{say_memory, say_text};
+use network_commands::{Status, Unjudged, say_refused};
+use rank_text::{Graph, Headed, Outputs, Problem, Sink, Site};
 use std::alloc::Global;
-use studio_rules::Status;
-use tree_reading::Headed;
-use verdicts::Unjudged;
 
 /// Prints what the tree proves of the claim, and the facts of its network if it has one; or the
 /// first line of the claim that fails.

@@ -1,19 +1,17 @@
 //! The whole object.
 ghost use Rattle.std.specs.Prelude.{◌≡◌, ℕ, List, true, IfOk};
-ghost use Rattle.tree_rules.specs.Claim.{ClaimPasses, IsFeasible};
-ghost use Rattle.report_rules.specs.Facts.{fact_lines};
-ghost use Rattle.report_rules.specs.Marginal.{Marginals, AreMarginals, AreClaimMarginals};
-ghost use Rattle.branch_tree.specs.View.{claim_of};
-ghost use Rattle.studio_rules.specs.Lines.{text_of};
-ghost use Rattle.studio_rules.specs.Json.{lines_behind, FactsSay};
+ghost use Rattle.rank_text.specs.tree_rules.Claim.{ClaimPasses, IsFeasible};
+ghost use Rattle.json_text.specs.report_rules.Facts.{fact_lines};
+ghost use Rattle.json_text.specs.report_rules.Marginal.{Marginals, AreMarginals, AreClaimMarginals};
+ghost use Rattle.rank_text.specs.branch_tree.View.{claim_of};
+ghost use Rattle.network_commands.specs.studio_rules.Lines.{text_of};
+ghost use Rattle.network_commands.specs.studio_rules.Json.{lines_behind, FactsSay};
 
 use crate::head::{claim_word, node_member, verdict_word, why_member};
-use branch_tree::{Claim, Network};
-use json_text::Json;
-use json_text::{bare_of, facts_of, gap_member, low_member, text_member};
-use report_amounts::marginals_of;
-use pgraph::Site;
-use report_rules::Verdict;
+use json_text::{
+    Json, Verdict, bare_of, facts_of, gap_member, low_member, marginals_of, text_member,
+};
+use rank_text::{Claim, Network, Site};
 use std::alloc::{AllocError, Global};
 
 /// The object of a network, with its marginals.

@@ -1,23 +1,21 @@
 //! The object of a ranking.
 ghost use Rattle.std.specs.Prelude.{◌≡◌, [], ℕ, List, IfOk, codes};
-ghost use Rattle.rank_rules.specs.Networks.{ArePassing};
-ghost use Rattle.rank_rules.specs.Text.{ranking_of};
-ghost use Rattle.report_rules.specs.Facts as facts;
-ghost use Rattle.report_rules.specs.Json.{member};
-ghost use Rattle.report_rules.specs.JsonRanked as ranked;
-ghost use Rattle.report_rules.specs.RankVerdict.{low_of};
-ghost use Rattle.studio_rules.specs.Lines.{text_of};
-ghost use Rattle.studio_rules.specs.RankJson as rules;
+ghost use Rattle.rank_text.specs.rank_rules.Networks.{ArePassing};
+ghost use Rattle.rank_text.specs.rank_rules.Text.{ranking_of};
+ghost use Rattle.json_text.specs.report_rules.Facts as facts;
+ghost use Rattle.json_text.specs.report_rules.Json.{member};
+ghost use Rattle.json_text.specs.report_rules.JsonRanked as ranked;
+ghost use Rattle.json_text.specs.report_rules.RankVerdict.{low_of};
+ghost use Rattle.network_commands.specs.studio_rules.Lines.{text_of};
+ghost use Rattle.network_commands.specs.studio_rules.RankJson as rules;
 
 use crate::first::first_marginals;
-use json_text::Json;
 use json_text::{
-    bound_member, count_member, first_gap_member, first_of, networks_member, text_member,
+    Json, LowerBound, RankVerdict, bound_member, count_member, first_gap_member, first_of,
+    networks_member, text_member,
 };
-use pgraph::Site;
-use command_files::rank_why_word;
-use rank_check::RankText;
-use report_rules::{LowerBound, RankVerdict};
+use network_commands::rank_why_word;
+use rank_text::{RankText, Site};
 use std::alloc::{AllocError, Global};
 
 fn verdict_word(verdict: RankVerdict) -> &'static str

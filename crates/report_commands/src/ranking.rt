@@ -1,34 +1,26 @@
 //! From the ranking to its text.
 ghost use Rattle.std.specs.Prelude.{◌≡◌, ◌<◌, ◌≤◌, ◌^◌, [], ℕ, List, IfOk, length};
-ghost use Rattle.rank_rules.specs.Networks.{ArePassing};
-ghost use Rattle.rank_rules.specs.Text.{ranking_of};
+ghost use Rattle.rank_text.specs.rank_rules.Networks.{ArePassing};
+ghost use Rattle.rank_text.specs.rank_rules.Text.{ranking_of};
 ghost use Rattle.report_commands.specs.Works.{RankWork, VerdictWork, RankLines};
-ghost use Rattle.studio_rules.specs.Lines.{line, text_of};
-ghost use Rattle.studio_rules.specs.RankWords.{network_line};
-ghost use Rattle.studio_rules.specs.TextFile.{RankSays};
-ghost use Rattle.studio_rules.specs.Ending.{Ends, Tells, Only, OrMemory};
-ghost use Rattle.studio_rules.specs.declared.status.Status.TheVariants.{BadClaim};
+ghost use Rattle.network_commands.specs.studio_rules.Lines.{line, text_of};
+ghost use Rattle.network_commands.specs.studio_rules.RankWords.{network_line};
+ghost use Rattle.network_commands.specs.studio_rules.TextFile.{RankSays};
+ghost use Rattle.network_commands.specs.studio_rules.Ending.{Ends, Tells, Only, OrMemory};
+ghost use Rattle.network_commands.specs.studio_rules.declared.status.Status.TheVariants.{BadClaim};
 
 use crate::drawing::say_drawn;
 use crate::form::{Form, Reader};
 use crate::object::rank_object;
 use crate::report::rank_report;
-use command_files::say_tree_fault;
-use command_files::say::{say_memory, say_told, tell_made};
-use studio_words::{Format, Notes, Source, refused};
-use pgraph::{Graph, Site};
-use pns_io::{Outputs, Sink};
-use pns_problem::Problem;
-use command_files::network_line;
-use rank_rules::RankWhy;
-use rank_text::read_rank;
-use verdicts::{RankUnjudged, rank_verdict_of};
-use rank_check::RankText;
-use report_rules::RankVerdict;
-use report_tables::Plant;
+use json_text::{Plant, RankVerdict};
+use network_commands::say::{say_memory, say_told, tell_made};
+use network_commands::{
+    Format, Notes, RankUnjudged, Source, Status, network_line, rank_verdict_of, refused,
+    say_tree_fault,
+};
+use rank_text::{Graph, Outputs, Problem, RankText, RankWhy, Sink, Site, TreeFault, read_rank};
 use std::alloc::{AllocError, Global};
-use studio_rules::Status;
-use tree_reading::TreeFault;
 
 /// The text of a ranking for this reader.
 fn text_of(

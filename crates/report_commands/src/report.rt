@@ -1,16 +1,14 @@
 //! The report of a ranking.
 ghost use Rattle.std.specs.Prelude.{◌≡◌, ◌++◌, ◌∷◌, [], ℕ, List, IfOk};
-ghost use Rattle.rank_rules.specs.Networks.{ArePassing};
-ghost use Rattle.rank_rules.specs.Text.{ranking_of};
-ghost use Rattle.studio_rules.specs.Lines.{text_of};
-ghost use Rattle.studio_rules.specs.RankReport.{rank_first_line, RankVerdictSays};
+ghost use Rattle.rank_text.specs.rank_rules.Networks.{ArePassing};
+ghost use Rattle.rank_text.specs.rank_rules.Text.{ranking_of};
+ghost use Rattle.network_commands.specs.studio_rules.Lines.{text_of};
+ghost use Rattle.network_commands.specs.studio_rules.RankReport.{rank_first_line, RankVerdictSays};
 
 use crate::first::first_marginals;
 use crate::words::push_first_line;
-use pns_problem::Problem;
-use rank_check::RankText;
-use report_rules::RankVerdict;
-use report_tables::{Plant, ranking_of};
+use json_text::{Plant, RankVerdict, ranking_of};
+use rank_text::{Problem, RankText};
 use std::alloc::{AllocError, Global};
 
 /// The first line, with its line feed.

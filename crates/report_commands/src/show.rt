@@ -1,38 +1,33 @@
 //! The command `show`.
 ghost use Rattle.std.specs.Prelude.{◌≡◌, ◌≤◌, ◌<◌, ◌^◌, ℕ, List, IfSome, length};
-ghost use Rattle.tree_rules.specs.Accepted.{first_node};
-ghost use Rattle.branch_tree.specs.View.{claim_of, tail_of};
-ghost use Rattle.abb_search.specs.Found.{IsFound};
-ghost use Rattle.report_rules.specs.Measures.{measures_of};
-ghost use Rattle.studio_rules.specs.Reading.{GivesProblem, TextSays};
-ghost use Rattle.studio_rules.specs.Show.{ShowWork, ShownIsProved, CertificateShows, HeadedShows};
-ghost use Rattle.studio_rules.specs.Report.{ReportSays};
-ghost use Rattle.studio_rules.specs.Lines.{text_of};
-ghost use Rattle.studio_rules.specs.Seconds.{AreSeconds};
-ghost use Rattle.studio_rules.specs.Solve.{status_of};
-ghost use Rattle.studio_rules.specs.Ending.{Ends, Tells, Only};
-ghost use Rattle.studio_rules.specs.Keeps.{Keeps};
+ghost use Rattle.rank_text.specs.tree_rules.Accepted.{first_node};
+ghost use Rattle.rank_text.specs.branch_tree.View.{claim_of, tail_of};
+ghost use Rattle.searches.specs.abb_search.Found.{IsFound};
+ghost use Rattle.json_text.specs.report_rules.Measures.{measures_of};
+ghost use Rattle.network_commands.specs.studio_rules.Reading.{GivesProblem, TextSays};
+ghost use Rattle.network_commands.specs.studio_rules.Show.{ShowWork, ShownIsProved};
+ghost use Rattle.network_commands.specs.studio_rules.Show.{CertificateShows, HeadedShows};
+ghost use Rattle.network_commands.specs.studio_rules.Report.{ReportSays};
+ghost use Rattle.network_commands.specs.studio_rules.Lines.{text_of};
+ghost use Rattle.network_commands.specs.studio_rules.Seconds.{AreSeconds};
+ghost use Rattle.network_commands.specs.studio_rules.Solve.{status_of};
+ghost use Rattle.network_commands.specs.studio_rules.Ending.{Ends, Tells, Only};
+ghost use Rattle.network_commands.specs.studio_rules.Keeps.{Keeps};
 ghost use Rattle.searches.specs.Solution.{certificate_of};
 ghost use Rattle.report_commands.specs.Shown.{FoundShows};
 
 use crate::stopped::say_stopped;
-use abb_search::Found;
-use branch_tree::{Claim, Tail, Tree};
-use command_files::plant_of;
-use command_files::say::{say_memory, say_text};
-use headed_search::Headed;
-use network_commands::{report_text_by, verdict_text};
-use pgraph::{Graph, Site};
-use pns_io::{Outputs, Shelf, Sink};
-use pns_problem::Problem;
-use pns_io::{Effort, Watch};
-use report_tables::{Measures, Plant};
-use searches::{Certificate, certificate_of, claimed, stopped_notes};
-use searches::{Solution, search_best};
+use json_text::{Measures, Plant};
+use network_commands::say::{say_memory, say_text};
+use network_commands::{Status, plant_of, report_text_by, verdict_of, verdict_text};
+use rank_text::{
+    Claim, Effort, Graph, Outputs, Problem, Shelf, Sink, Site, Tail, Tree, Watch,
+    accepted_is_optimal,
+};
+use searches::{
+    Certificate, Found, Headed, Solution, certificate_of, claimed, search_best, stopped_notes,
+};
 use std::alloc::Global;
-use studio_rules::Status;
-use tree_laws::accepted_is_optimal;
-use verdicts::verdict_of;
 
 /// Prints a report with the status of the search, which says why that stopped if it did.
 fn say_report<K: Sink, E: Sink>(

@@ -1,11 +1,11 @@
 //! The text of a search that is not finished.
-ghost use Rattle.studio_rules.specs.Ending.{Ends, Only, IsUnfinished};
-ghost use Rattle.studio_rules.specs.Seconds.{AreSeconds};
+ghost use Rattle.network_commands.specs.studio_rules.Ending.{Ends, Only, IsUnfinished};
+ghost use Rattle.network_commands.specs.studio_rules.Seconds.{AreSeconds};
 
-use command_files::outputs::put_answer;
-use command_files::say::say_unfinished;
-use pns_io::{Outputs, Sink};
-use studio_rules::Status;
+use network_commands::Status;
+use network_commands::outputs::put_answer;
+use network_commands::say::say_unfinished;
+use rank_text::{Outputs, Sink};
 
 /// Prints the text on standard output, and on standard error why the search is not finished.
 pub(crate) fn say_stopped<K: Sink, E: Sink>(

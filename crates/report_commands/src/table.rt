@@ -1,17 +1,13 @@
 //! From the bytes of a table of ranges to its object.
 ghost use Rattle.std.specs.Prelude.{◌≤◌, ℕ, List, length};
-ghost use Rattle.studio_rules.specs.RangesJson.{TableSays};
-ghost use Rattle.studio_rules.specs.Ending.{Ends, Tells};
+ghost use Rattle.network_commands.specs.studio_rules.RangesJson.{TableSays};
+ghost use Rattle.network_commands.specs.studio_rules.Ending.{Ends, Tells};
 
-use command_files::say_tree_fault;
-use command_files::say::{say_made, say_memory};
-use studio_words::{Format, Source};
-use pns_io::{Outputs, Sink};
-use pns_problem::Problem;
 use json_text::{read_table, table_json};
+use network_commands::say::{say_made, say_memory};
+use network_commands::{Format, Source, Status, say_tree_fault};
+use rank_text::{Outputs, Problem, Sink, TreeFault};
 use std::alloc::Global;
-use studio_rules::Status;
-use tree_reading::TreeFault;
 
 /// Prints the rows of the table, or its first fault.
 pub(crate) fn say_table<K: Sink, E: Sink>(

@@ -1,28 +1,22 @@
 //! From the bytes of a file to the text of what it holds.
 ghost use Rattle.std.specs.Prelude.{◌≤◌, ℕ, List, length};
 ghost use Rattle.report_commands.specs.Works.{TreeWork, RankWork, FormSays};
-ghost use Rattle.studio_rules.specs.RangesJson.{AnySays};
-ghost use Rattle.studio_rules.specs.HeadedFile.{HeadedSays};
-ghost use Rattle.studio_rules.specs.TextFile.{EitherSays};
-ghost use Rattle.studio_rules.specs.Ending.{Ends, Tells};
+ghost use Rattle.network_commands.specs.studio_rules.RangesJson.{AnySays};
+ghost use Rattle.network_commands.specs.studio_rules.HeadedFile.{HeadedSays};
+ghost use Rattle.network_commands.specs.studio_rules.TextFile.{EitherSays};
+ghost use Rattle.network_commands.specs.studio_rules.Ending.{Ends, Tells};
 
 use crate::form::Form;
 use crate::ranking::say_ranking;
-use crate::table::say_table;
-use command_files::say_tree_fault;
-use command_files::say::say_memory;
 use crate::say_stated;
-use studio_words::{Format, Source};
-use network_commands::{NetworkText, say_claimed, say_reported};
-use pgraph::{Graph, Site};
-use pns_io::{Outputs, Sink};
-use pns_problem::Problem;
-use json_text::is_table;
-use rank_text::is_ranking;
-use report_tables::Plant;
+use crate::table::say_table;
+use json_text::{Plant, is_table};
+use network_commands::say::say_memory;
+use network_commands::{
+    Format, NetworkText, Source, Status, say_claimed, say_reported, say_tree_fault,
+};
+use rank_text::{Graph, Headed, Outputs, Problem, Sink, Site, TreeFault, is_ranking, read_headed};
 use std::alloc::Global;
-use studio_rules::Status;
-use tree_reading::{Headed, TreeFault, read_headed};
 
 /// Prints the tree of the bytes of a file in this form, with the head that it may have, or their
 /// first fault.

@@ -1,19 +1,18 @@
 //! The first line of the report of a ranking: what its tree proves.
 ghost use Rattle.std.specs.Prelude.{◌≡◌, ◌++◌, OnOk, codes, decimal, length, string_bytes};
-ghost use Rattle.rank_rules.specs.Text.{ranking_of};
-ghost use Rattle.studio_rules.specs.Report.{low_words};
-ghost use Rattle.studio_rules.specs.RankReport.{listed_word, best_words, all_words};
-ghost use Rattle.studio_rules.specs.RankReport.{contained_words, fewer_words, ranked_words};
-ghost use Rattle.studio_rules.specs.RankReport.{gap_of_first, unfinished_words, failing_words};
-ghost use Rattle.studio_rules.specs.RankReport.{rank_first_line};
+ghost use Rattle.rank_text.specs.rank_rules.Text.{ranking_of};
+ghost use Rattle.network_commands.specs.studio_rules.Report.{low_words};
+ghost use Rattle.network_commands.specs.studio_rules.RankReport.{listed_word, best_words};
+ghost use Rattle.network_commands.specs.studio_rules.RankReport.{all_words};
+ghost use Rattle.network_commands.specs.studio_rules.RankReport.{contained_words, fewer_words};
+ghost use Rattle.network_commands.specs.studio_rules.RankReport.{ranked_words};
+ghost use Rattle.network_commands.specs.studio_rules.RankReport.{gap_of_first, unfinished_words};
+ghost use Rattle.network_commands.specs.studio_rules.RankReport.{failing_words};
+ghost use Rattle.network_commands.specs.studio_rules.RankReport.{rank_first_line};
 
-use branch_tree::Network;
-use network_commands::{push_gap_behind, push_low_words};
-use pns_problem::Problem;
-use command_files::rank_why_word;
-use rank_rules::RankWhy;
-use rank_check::{Asked, RankText};
-use report_rules::{LowerBound, RankVerdict};
+use json_text::{LowerBound, RankVerdict};
+use network_commands::{push_gap_behind, push_low_words, rank_why_word};
+use rank_text::{Asked, Network, Problem, RankText, RankWhy};
 use std::alloc::AllocError;
 
 fn listed_word(distinct: bool) -> &'static str
@@ -38,7 +37,7 @@ fn push_best_ones(text: &mut String, distinct: bool, found: u32) -> Result<(), A
     Ok(())
 }
 
-#[tactic(auto, unfolding(studio_rules::specs::RankReport::best_words))]
+#[tactic(auto, unfolding(crate::specs::Unfolded::best_words))]
 fn push_best(text: &mut String, distinct: bool, found: u32) -> Result<(), AllocError>
     ensures { OnOk result
         (string_bytes text.new ≡ string_bytes text.old ++ best_words distinct found) }
@@ -63,7 +62,7 @@ fn push_all_ones(text: &mut String, found: u32) -> Result<(), AllocError>
     Ok(())
 }
 
-#[tactic(auto, unfolding(studio_rules::specs::RankReport::all_words))]
+#[tactic(auto, unfolding(crate::specs::Unfolded::all_words))]
 fn push_all(text: &mut String, found: u32) -> Result<(), AllocError>
     ensures { OnOk result (string_bytes text.new ≡ string_bytes text.old ++ all_words found) }
 {
@@ -87,7 +86,7 @@ fn push_contained_ones(text: &mut String, found: u32) -> Result<(), AllocError>
     Ok(())
 }
 
-#[tactic(auto, unfolding(studio_rules::specs::RankReport::contained_words))]
+#[tactic(auto, unfolding(crate::specs::Unfolded::contained_words))]
 fn push_contained(text: &mut String, found: u32) -> Result<(), AllocError>
     ensures { OnOk result
         (string_bytes text.new ≡ string_bytes text.old ++ contained_words found) }
@@ -110,7 +109,7 @@ fn push_fewer(text: &mut String, distinct: bool, found: u32) -> Result<(), Alloc
     }
 }
 
-#[tactic(auto, unfolding(studio_rules::specs::RankReport::ranked_words))]
+#[tactic(auto, unfolding(crate::specs::Unfolded::ranked_words))]
 fn push_ranked(text: &mut String, asked: Asked, found: u32) -> Result<(), AllocError>
     ensures { OnOk result
         (string_bytes text.new

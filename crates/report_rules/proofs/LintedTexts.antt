@@ -3,10 +3,10 @@
 use Rattle.std.proofs.Common.{◌≡◌, ◌++◌, ℕ, Bool, List, [], ◌∷◌, flat_map, codes, refl, Result, Ok}
 use Rattle.std.proofs.Common.{Err}
 use Rattle.std.specs.Fmt.{digits}
-use Rattle.number_sets.specs.Sets.{has}
-use Rattle.problem_rules.specs.Problem.{Problem}
-use Rattle.text_rules.specs.Fault.{Fault}
-use Rattle.text_rules.specs.Value.{read_text}
+use Rattle.rank_rules.specs.number_sets.Sets.{has}
+use Rattle.rank_rules.specs.problem_rules.Problem.{Problem}
+use Rattle.rank_rules.specs.text_rules.Fault.{Fault}
+use Rattle.rank_rules.specs.text_rules.Value.{read_text}
 use Rattle.report_rules.specs.declared.warning.Warning.{Warning}
 use Rattle.report_rules.specs.declared.warning.Warning.TheVariants.{NoNetwork, UnusedMaterial}
 use Rattle.report_rules.specs.declared.warning.Warning.TheVariants.{NoDemand, DefaultCapacity, Free}

@@ -2,7 +2,7 @@
 -- of cost 75 and the bound 67 are 10.66.. per cent apart.
 use Rattle.std.proofs.Common.{◌≡◌, ℤ, pos, [], ◌++◌, refl, arith}
 use Rattle.std.specs.Prelude.{neg_ℤ, codes, decimal}
-use Rattle.tree_rules.specs.Claim.{Network}
+use Rattle.rank_rules.specs.tree_rules.Claim.{Network}
 use Rattle.report_rules.specs.Amounts.{quotient}
 use Rattle.report_rules.specs.Decimal.{six_digits_down}
 use Rattle.report_rules.specs.declared.lower_bound.LowerBound.{LowerBound}

@@ -1,10 +1,10 @@
 -- A ranked tree of three nodes as an ordinary one: its leaf that names the network 1 is open, with
 -- the bound that it has there, and the others stay as they are.
 use Rattle.std.proofs.Common.{◌≡◌, pos, [], ◌∷◌, Some, refl}
-use Rattle.tree_rules.specs.Ways.{either}
-use Rattle.tree_rules.specs.Tree.{branch, leaf}
-use Rattle.tree_rules.specs.Leaf as leaves
-use Rattle.tree_rules.specs.Claim.{unknown}
+use Rattle.rank_rules.specs.tree_rules.Ways.{either}
+use Rattle.rank_rules.specs.tree_rules.Tree.{branch, leaf}
+use Rattle.rank_rules.specs.tree_rules.Leaf as leaves
+use Rattle.rank_rules.specs.tree_rules.Claim.{unknown}
 use Rattle.rank_rules.specs.declared.naming.Naming.TheVariants.{Only}
 use Rattle.rank_rules.specs.Leaf.{plain, named}
 use Rattle.report_rules.specs.RankLow.{plain_tree, best_claim}

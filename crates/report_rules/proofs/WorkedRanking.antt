@@ -2,8 +2,8 @@
 -- second costs 76 and has U2 too, which is idle: 1 more, which is 1.3 % of 75. The third costs 86
 -- and has U2 in place of U1: 11 more, which is 14.7 %. Costs are in 10^-18 here.
 use Rattle.std.proofs.Common.{◌≡◌, ◌++◌, ℕ, pos, List, [], ◌∷◌, codes, decimal, refl}
-use Rattle.problem_rules.specs.Problem.{Problem, OperatingUnit}
-use Rattle.tree_rules.specs.Claim.{Network}
+use Rattle.rank_rules.specs.problem_rules.Problem.{Problem, OperatingUnit}
+use Rattle.rank_rules.specs.tree_rules.Claim.{Network}
 use Rattle.report_rules.specs.Amounts.{quotient}
 use Rattle.report_rules.specs.Ranked.{share_above_cell, with_idle, change_cell, idle_cell}
 use Rattle.report_rules.specs.Graph.{change_words}

@@ -2,10 +2,11 @@
 -- line they have a fault.
 use Rattle.std.proofs.Common.{◌≡◌, ◌++◌, ℕ, pos, neg_ℤ, true, false, List, [], ◌∷◌, map, flat_map}
 use Rattle.std.proofs.Common.{codes, Result, Ok, Err, refl}
-use Rattle.problem_rules.specs.Problem.{Problem, Material, OperatingUnit, intermediate}
+use Rattle.rank_rules.specs.problem_rules.Problem.{Problem, Material, OperatingUnit, intermediate}
 use Rattle.report_rules.specs.declared.spot.Spot.TheVariants.{Price, Fix, Proportional}
-use Rattle.tree_text_rules.specs.declared.TreeKind.TheVariants.{BadLine, BadNumber, UnknownName}
-use Rattle.tree_text_rules.specs.Read.{Fault}
+use Rattle.rank_rules.specs.tree_text_rules.declared.TreeKind.TheVariants.{BadLine, BadNumber}
+use Rattle.rank_rules.specs.tree_text_rules.declared.TreeKind.TheVariants.{UnknownName}
+use Rattle.rank_rules.specs.tree_text_rules.Read.{Fault}
 use Rattle.report_rules.specs.declared.end.End.TheVariants.{Value, Limit, Unknown}
 use Rattle.report_rules.specs.declared.row.Row.{Row}
 use Rattle.report_rules.specs.Object.{row_json}

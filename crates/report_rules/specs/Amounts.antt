@@ -3,11 +3,11 @@
 -- millionths; so the product of both is in 10^-12 over d. Each number is one product of a number of
 -- the claim over d, or a sum of such products, formed before any rounding.
 use Rattle.std.specs.Prelude.{ℕ, List, ℤ, pos, neg_ℤ, int_lt, if◌then◌else◌}
-use Rattle.number_sets.specs.Sets.{has}
-use Rattle.problem_rules.specs.Problem.{Problem, unit_at, material_at, rate_of}
-use Rattle.flow_rules.specs.Net.{net_of, materials_of, million, trillion}
-use Rattle.flow_rules.specs.Flows.{balance}
-use Rattle.tree_rules.specs.Claim.{Network, size_in}
+use Rattle.rank_rules.specs.number_sets.Sets.{has}
+use Rattle.rank_rules.specs.problem_rules.Problem.{Problem, unit_at, material_at, rate_of}
+use Rattle.rank_rules.specs.flow_rules.Net.{net_of, materials_of, million, trillion}
+use Rattle.rank_rules.specs.flow_rules.Flows.{balance}
+use Rattle.rank_rules.specs.tree_rules.Claim.{Network, size_in}
 use Rattle.report_rules.specs.Number.{Number, of, times, plus, above, below, sum_of}
 use Rattle.report_rules.specs.declared.amount.UnitAmount.{UnitAmount}
 use Rattle.report_rules.specs.declared.amount.UnitAmount.TheVariants.{Fixed, Proportional}

@@ -6,15 +6,15 @@
 use Rattle.std.specs.Prelude.{ℕ, ◌+◌, ◌&&◌, Bool, not, List, [], ◌∷◌, ◌++◌, length, take, flat_map}
 use Rattle.std.specs.Prelude.{ℤ, pos, int_lt, codes, decimal, if◌then◌else◌}
 use Rattle.std.specs.Ordering.{int_eq}
-use Rattle.number_sets.specs.Sets.{listed}
-use Rattle.problem_rules.specs.Problem.{Problem, unit_at, material_at, is_raw_material}
-use Rattle.pns_rules.specs.Shape.{Shape, shape_of}
-use Rattle.pns_rules.specs.Nodes.{Node}
-use Rattle.flow_rules.specs.Net.{net_of, million}
-use Rattle.flow_rules.specs.Relaxed.{units, rows, lower_at, unit_low, reduced_cost}
-use Rattle.tree_rules.specs.Tree.{End, leaf, after_all, below}
-use Rattle.tree_rules.specs.Leaf.{Leaf, refuted, multiplier}
-use Rattle.tree_rules.specs.Accepted.{Tree, first_node}
+use Rattle.rank_rules.specs.number_sets.Sets.{listed}
+use Rattle.rank_rules.specs.problem_rules.Problem.{Problem, unit_at, material_at, is_raw_material}
+use Rattle.rank_rules.specs.pns_rules.Shape.{Shape, shape_of}
+use Rattle.rank_rules.specs.pns_rules.Nodes.{Node}
+use Rattle.rank_rules.specs.flow_rules.Net.{net_of, million}
+use Rattle.rank_rules.specs.flow_rules.Relaxed.{units, rows, lower_at, unit_low, reduced_cost}
+use Rattle.rank_rules.specs.tree_rules.Tree.{End, leaf, after_all, below}
+use Rattle.rank_rules.specs.tree_rules.Leaf.{Leaf, refuted, multiplier}
+use Rattle.rank_rules.specs.tree_rules.Accepted.{Tree, first_node}
 use Rattle.report_rules.specs.Number.{number_text}
 use Rattle.report_rules.specs.Amounts.{quotient}
 use Rattle.report_rules.specs.Report.{names_or_none}

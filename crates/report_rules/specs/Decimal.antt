@@ -6,7 +6,7 @@
 -- but is rounded down.
 use Rattle.std.specs.Prelude.{◌==◌, ◌&&◌, ◌+◌, ◌*◌, ◌/◌, ◌%◌, ◌^◌, ◌++◌, ℕ, zero, suc, Bool, not}
 use Rattle.std.specs.Prelude.{List, [], ◌∷◌, ℤ, pos, unsigned_abs, int_lt, decimal, if◌then◌else◌}
-use Rattle.text_rules.specs.Printed.{places}
+use Rattle.rank_rules.specs.text_rules.Printed.{places}
 
 -- the fraction in units of its last place, as a whole number: num / den times 10^k without its
 -- sign, rounded

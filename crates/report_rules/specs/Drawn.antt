@@ -10,13 +10,13 @@ use Rattle.report_rules.specs.Number.{Number, number_text, times}
 use Rattle.report_rules.specs.Amounts.{quotient, size, price, unit_total}
 use Rattle.report_rules.specs.Aligned.{greater}
 use Rattle.report_rules.specs.Report.{turned_flow}
-use Rattle.number_sets.specs.Sets.{has, listed}
-use Rattle.problem_rules.specs.Problem.{Problem, Term, rate_of, unit_at, material_at}
-use Rattle.pns_rules.specs.Shape.{shape_of}
-use Rattle.pns_rules.specs.Structure.{mats}
-use Rattle.flow_rules.specs.Net.{net_of, million}
-use Rattle.flow_rules.specs.Flows.{balance}
-use Rattle.tree_rules.specs.Claim.{Network, size_in}
+use Rattle.rank_rules.specs.number_sets.Sets.{has, listed}
+use Rattle.rank_rules.specs.problem_rules.Problem.{Problem, Term, rate_of, unit_at, material_at}
+use Rattle.rank_rules.specs.pns_rules.Shape.{shape_of}
+use Rattle.rank_rules.specs.pns_rules.Structure.{mats}
+use Rattle.rank_rules.specs.flow_rules.Net.{net_of, million}
+use Rattle.rank_rules.specs.flow_rules.Flows.{balance}
+use Rattle.rank_rules.specs.tree_rules.Claim.{Network, size_in}
 use Rattle.report_rules.specs.declared.role.Role.{Role}
 use Rattle.report_rules.specs.declared.role.Role.TheVariants.{Planned, Running, AtLimit, Idle}
 use Rattle.report_rules.specs.declared.role.Role.TheVariants.{LeftOut}

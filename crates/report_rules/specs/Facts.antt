@@ -4,11 +4,11 @@ use Rattle.std.specs.Prelude.{◌*ℤ◌, ◌&&◌, not, ℕ, List, [], ◌∷�
 use Rattle.std.specs.Prelude.{unsigned_abs, int_lt, codes, decimal, if◌then◌else◌}
 use Rattle.std.specs.Str.{bytes_eq}
 use Rattle.std.specs.Ordering.{int_eq}
-use Rattle.number_sets.specs.Sets.{has}
-use Rattle.problem_rules.specs.Problem.{Problem, unit_at, material_at}
-use Rattle.text_rules.specs.Canonical.{kind_word}
-use Rattle.flow_rules.specs.Net.{net_of, materials_of}
-use Rattle.tree_rules.specs.Claim.{Network}
+use Rattle.rank_rules.specs.number_sets.Sets.{has}
+use Rattle.rank_rules.specs.problem_rules.Problem.{Problem, unit_at, material_at}
+use Rattle.rank_rules.specs.text_rules.Canonical.{kind_word}
+use Rattle.rank_rules.specs.flow_rules.Net.{net_of, materials_of}
+use Rattle.rank_rules.specs.tree_rules.Claim.{Network}
 use Rattle.report_rules.specs.Number.{Number, times}
 use Rattle.report_rules.specs.declared.amount.UnitAmount.TheVariants.{Fixed, Proportional}
 use Rattle.report_rules.specs.declared.amount.UnitAmount.TheVariants.{Investment, Total, Once, Made}

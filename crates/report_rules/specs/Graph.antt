@@ -9,15 +9,15 @@ use Rattle.std.specs.Prelude.{if◌then◌else◌}
 use Rattle.report_rules.specs.Decimal.{six_digits, signed_text}
 use Rattle.report_rules.specs.Number.{number_text}
 use Rattle.report_rules.specs.Ranked.{above_first, change_cell}
-use Rattle.number_sets.specs.Sets.{has, listed}
-use Rattle.problem_rules.specs.Problem.{Kind, raw_material, intermediate, product}
-use Rattle.problem_rules.specs.Problem.{Problem}
-use Rattle.problem_rules.specs.Problem.{Term}
-use Rattle.problem_rules.specs.Problem.{Material, OperatingUnit, material_at, unit_at}
-use Rattle.flow_rules.specs.Net.{net_of, materials_of}
-use Rattle.pns_rules.specs.Shape.{shape_of}
-use Rattle.pns_rules.specs.Structure.{mats}
-use Rattle.tree_rules.specs.Claim.{Network}
+use Rattle.rank_rules.specs.number_sets.Sets.{has, listed}
+use Rattle.rank_rules.specs.problem_rules.Problem.{Kind, raw_material, intermediate, product}
+use Rattle.rank_rules.specs.problem_rules.Problem.{Problem}
+use Rattle.rank_rules.specs.problem_rules.Problem.{Term}
+use Rattle.rank_rules.specs.problem_rules.Problem.{Material, OperatingUnit, material_at, unit_at}
+use Rattle.rank_rules.specs.flow_rules.Net.{net_of, materials_of}
+use Rattle.rank_rules.specs.pns_rules.Shape.{shape_of}
+use Rattle.rank_rules.specs.pns_rules.Structure.{mats}
+use Rattle.rank_rules.specs.tree_rules.Claim.{Network}
 use Rattle.report_rules.specs.declared.role.Role.{Role}
 use Rattle.report_rules.specs.declared.role.Role.TheVariants.{Planned, Running, AtLimit}
 use Rattle.report_rules.specs.declared.role.Role.TheVariants.{Idle}

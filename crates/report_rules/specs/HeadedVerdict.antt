@@ -1,11 +1,12 @@
 -- What a branch tree with a head proves of its claim, from the node at which nothing is decided. An
 -- open leaf fails.
 use Rattle.std.specs.Prelude.{Bool, true, false, List, [], ◌∷◌}
-use Rattle.problem_rules.specs.Problem.{Problem}
-use Rattle.tree_rules.specs.Claim.{Claim, ClaimPasses}
-use Rattle.tree_rules.specs.Accepted.{Tree}
-use Rattle.tree_rules.specs.Head.{HeadLine}
-use Rattle.tree_rules.specs.Headed.{head_node, HeadPasses, IsAcceptedBy, LineIsFault, NodeIsFaultBy}
+use Rattle.rank_rules.specs.problem_rules.Problem.{Problem}
+use Rattle.rank_rules.specs.tree_rules.Claim.{Claim, ClaimPasses}
+use Rattle.rank_rules.specs.tree_rules.Accepted.{Tree}
+use Rattle.rank_rules.specs.tree_rules.Head.{HeadLine}
+use Rattle.rank_rules.specs.tree_rules.Headed.{head_node, HeadPasses, IsAcceptedBy, LineIsFault}
+use Rattle.rank_rules.specs.tree_rules.Headed.{NodeIsFaultBy}
 use Rattle.report_rules.specs.declared.headed_verdict.HeadedVerdict.{HeadedVerdict}
 use Rattle.report_rules.specs.declared.headed_verdict.HeadedVerdict.TheVariants.{Proved}
 use Rattle.report_rules.specs.declared.headed_verdict.HeadedVerdict.TheVariants.{LineFails}

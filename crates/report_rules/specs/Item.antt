@@ -2,11 +2,12 @@
 use Rattle.std.specs.Prelude.{ℕ, ◌+◌, Bool, ◌||◌, List, [], ◌∷◌, Option, Some, None, option_map}
 use Rattle.std.specs.Prelude.{filter, if◌then◌else◌}
 use Rattle.std.specs.Str.{bytes_eq}
-use Rattle.problem_rules.specs.Problem.{Problem, material_at, unit_at, exclusion_at, material_names}
-use Rattle.problem_rules.specs.Problem.{unit_names, exclusion_names}
-use Rattle.problem_rules.specs.Names.{is_among}
-use Rattle.text_rules.specs.declared.Section.{Section}
-use Rattle.text_rules.specs.declared.Section.TheVariants as sections
+use Rattle.rank_rules.specs.problem_rules.Problem.{Problem, material_at, unit_at, exclusion_at}
+use Rattle.rank_rules.specs.problem_rules.Problem.{material_names}
+use Rattle.rank_rules.specs.problem_rules.Problem.{unit_names, exclusion_names}
+use Rattle.rank_rules.specs.problem_rules.Names.{is_among}
+use Rattle.rank_rules.specs.text_rules.declared.Section.{Section}
+use Rattle.rank_rules.specs.text_rules.declared.Section.TheVariants as sections
 use Rattle.report_rules.specs.declared.item.Item.{Item}
 use Rattle.report_rules.specs.declared.item.Item.TheVariants as items
 use Rattle.report_rules.specs.declared.warning.Warning.{Warning}

@@ -3,8 +3,8 @@
 -- node fails.
 use Rattle.std.specs.Prelude.{◌*ℤ◌, ℕ, List, Option, Some, None, pos, if◌then◌else◌}
 use Rattle.std.specs.Ordering.{int_eq}
-use Rattle.problem_rules.specs.Problem.{Problem}
-use Rattle.tree_rules.specs.Claim.{Claim, Network, network, infeasible, unknown}
+use Rattle.rank_rules.specs.problem_rules.Problem.{Problem}
+use Rattle.rank_rules.specs.tree_rules.Claim.{Claim, Network, network, infeasible, unknown}
 use Rattle.report_rules.specs.Number.{Number, times}
 use Rattle.report_rules.specs.Amounts.{quotient}
 use Rattle.report_rules.specs.Lower.{gap}

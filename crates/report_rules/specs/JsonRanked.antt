@@ -2,9 +2,9 @@
 -- of a report. After them come the facts of the first network.
 use Rattle.std.specs.Prelude.{ℕ, ◌+◌, List, [], ◌∷◌, map, flat_map, codes, pos, if◌then◌else◌}
 use Rattle.std.specs.Ordering.{int_eq}
-use Rattle.number_sets.specs.Sets.{minus}
-use Rattle.problem_rules.specs.Problem.{Problem}
-use Rattle.tree_rules.specs.Claim.{Network, size_in}
+use Rattle.rank_rules.specs.number_sets.Sets.{minus}
+use Rattle.rank_rules.specs.problem_rules.Problem.{Problem}
+use Rattle.rank_rules.specs.tree_rules.Claim.{Network, size_in}
 use Rattle.report_rules.specs.Marginal.{Marginals}
 use Rattle.report_rules.specs.Ranked.{above_first, share_above}
 use Rattle.report_rules.specs.Json.{null, member, object, array}

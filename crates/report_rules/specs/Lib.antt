@@ -29,3 +29,13 @@ pub mod Value
 pub mod Verdict
 pub mod Warned
 pub mod Words
+pub use Rattle.rank_rules.specs.number_sets as number_sets
+pub use Rattle.rank_rules.specs.integer_laws as integer_laws
+pub use Rattle.rank_rules.specs.problem_rules as problem_rules
+pub use Rattle.rank_rules.specs.text_rules as text_rules
+pub use Rattle.rank_rules.specs.pns_rules as pns_rules
+pub use Rattle.rank_rules.specs.edit_rules as edit_rules
+pub use Rattle.rank_rules.specs.flow_rules as flow_rules
+pub use Rattle.rank_rules.specs.tree_rules as tree_rules
+pub use Rattle.rank_rules.specs.tree_text_rules as tree_text_rules
+pub use Rattle.rank_rules.specs as rank_rules

@@ -2,9 +2,9 @@
 -- line by the order of the kinds.
 use Rattle.std.specs.Prelude.{ℕ, ◌++◌, Bool, List, [], ◌∷◌, Option, Some, None, flat_map, codes}
 use Rattle.std.specs.Prelude.{decimal}
-use Rattle.problem_rules.specs.Problem.{Problem}
-use Rattle.text_rules.specs.declared.Section.TheVariants.{OperatingUnits}
-use Rattle.text_rules.specs.Line.{Placed, head_of, heads_at, lines_of, meant_of}
+use Rattle.rank_rules.specs.problem_rules.Problem.{Problem}
+use Rattle.rank_rules.specs.text_rules.declared.Section.TheVariants.{OperatingUnits}
+use Rattle.rank_rules.specs.text_rules.Line.{Placed, head_of, heads_at, lines_of, meant_of}
 use Rattle.report_rules.specs.declared.item.Item.{Item}
 use Rattle.report_rules.specs.declared.warning.Warning.{Warning}
 use Rattle.report_rules.specs.Item.{item_at, name_of, warnings_of}

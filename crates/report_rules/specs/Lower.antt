@@ -3,8 +3,8 @@
 use Rattle.std.specs.Prelude.{◌+◌, ◌*◌, ◌/◌, ◌%◌, ◌==◌, ℕ, List, [], ◌∷◌, ◌++◌, Some, None, ℤ, pos}
 use Rattle.std.specs.Prelude.{neg_ℤ, int_lt, unsigned_abs, codes, decimal, if◌then◌else◌}
 use Rattle.std.specs.Ordering.{int_eq}
-use Rattle.problem_rules.specs.Problem.{Problem}
-use Rattle.tree_rules.specs.Claim.{Network}
+use Rattle.rank_rules.specs.problem_rules.Problem.{Problem}
+use Rattle.rank_rules.specs.tree_rules.Claim.{Network}
 use Rattle.report_rules.specs.Decimal.{six_digits_down}
 use Rattle.report_rules.specs.Number.{Fraction, Number, times, plus}
 use Rattle.report_rules.specs.Amounts.{quotient}

@@ -4,13 +4,13 @@
 use Rattle.std.specs.Prelude.{◌≡◌, ℕ, Bool, true, false, List, [], ◌∷◌, Option, Some, None, ℤ}
 use Rattle.std.specs.Prelude.{pos, neg_ℤ, ◌*ℤ◌, if◌then◌else◌}
 use Rattle.std.specs.Ordering.{int_eq}
-use Rattle.problem_rules.specs.Problem.{Problem, unit_at, rate_of}
-use Rattle.flow_rules.specs.declared.place.Column.{Column}
-use Rattle.flow_rules.specs.declared.place.Place.{Place}
-use Rattle.flow_rules.specs.Net.{net_of, beside, million}
-use Rattle.flow_rules.specs.PastPlace.{IsPastNamed}
-use Rattle.tree_rules.specs.Claim.{Claim, Network, network, infeasible, unknown}
-use Rattle.tree_rules.specs.LeastFlows.{decided, rows_of, IsLeastFlows}
+use Rattle.rank_rules.specs.problem_rules.Problem.{Problem, unit_at, rate_of}
+use Rattle.rank_rules.specs.flow_rules.declared.place.Column.{Column}
+use Rattle.rank_rules.specs.flow_rules.declared.place.Place.{Place}
+use Rattle.rank_rules.specs.flow_rules.Net.{net_of, beside, million}
+use Rattle.rank_rules.specs.flow_rules.PastPlace.{IsPastNamed}
+use Rattle.rank_rules.specs.tree_rules.Claim.{Claim, Network, network, infeasible, unknown}
+use Rattle.rank_rules.specs.tree_rules.LeastFlows.{decided, rows_of, IsLeastFlows}
 use Rattle.report_rules.specs.Number.{Number, nothing, times, plus, sum_of}
 use Rattle.report_rules.specs.Amounts.{quotient, price}
 

@@ -6,10 +6,10 @@ use Rattle.std.specs.Prelude.{ℕ, ◌++◌, ◌&&◌, nat_le, Bool, true, false
 use Rattle.std.specs.Prelude.{Some, None, length, drop, codes, if◌then◌else◌}
 use Rattle.std.specs.List.{list_all}
 use Rattle.std.specs.Str.{bytes_eq}
-use Rattle.text_rules.specs.declared.Section.{Section}
-use Rattle.text_rules.specs.declared.Section.TheVariants.{Preamble, MeasurementUnits}
-use Rattle.text_rules.specs.Line.{lines_of, section_after}
-use Rattle.text_rules.specs.Field.{key_of, value_of}
+use Rattle.rank_rules.specs.text_rules.declared.Section.{Section}
+use Rattle.rank_rules.specs.text_rules.declared.Section.TheVariants.{Preamble, MeasurementUnits}
+use Rattle.rank_rules.specs.text_rules.Line.{lines_of, section_after}
+use Rattle.rank_rules.specs.text_rules.Field.{key_of, value_of}
 
 -- those of money, of what flows, and of time
 pub record Measures : Type 0 where

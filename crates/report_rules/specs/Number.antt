@@ -3,7 +3,7 @@
 use Rattle.std.specs.Prelude.{ℕ, zero, suc, ◌+◌, ◌*◌, ◌/◌, ◌%◌, ◌^◌, ◌==◌, nat_lt, ◌&&◌, Bool, List}
 use Rattle.std.specs.Prelude.{[], ◌∷◌, ◌++◌, Option, Some, None, ℤ, pos, ◌+ℤ◌, ◌*ℤ◌, unsigned_abs}
 use Rattle.std.specs.Prelude.{int_lt, codes, decimal, if◌then◌else◌}
-use Rattle.text_rules.specs.Amount.{signed}
+use Rattle.rank_rules.specs.text_rules.Amount.{signed}
 use Rattle.report_rules.specs.Decimal.{signed_text, places_behind}
 
 pub record Fraction : Type 0 where

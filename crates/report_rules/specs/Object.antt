@@ -1,8 +1,8 @@
 -- A table of ranges as the lines of one JSON object, with a line for each row.
 use Rattle.std.specs.Prelude.{◌||◌, not, ℕ, ℤ, Bool, true, false, List, [], ◌∷◌, ◌++◌, map, codes}
 use Rattle.std.specs.Prelude.{if◌then◌else◌}
-use Rattle.problem_rules.specs.Problem.{Problem, material_at, unit_at}
-use Rattle.flow_rules.specs.Net.{million}
+use Rattle.rank_rules.specs.problem_rules.Problem.{Problem, material_at, unit_at}
+use Rattle.rank_rules.specs.flow_rules.Net.{million}
 use Rattle.report_rules.specs.Amounts.{quotient}
 use Rattle.report_rules.specs.declared.spot.Spot.{Spot}
 use Rattle.report_rules.specs.declared.spot.Spot.TheVariants.{Price, Fix, Proportional}

@@ -2,16 +2,16 @@
 -- unchanged, is optimal among the clash-free networks.
 use Rattle.std.specs.Prelude.{◌≡◌, ◌⊎◌, ℕ, ◌/◌, ℤ, pos, ◌+ℤ◌, ◌-ℤ◌, ◌*ℤ◌, ◌≤ℤ◌, ◌<ℤ◌, Bool, Option}
 use Rattle.std.specs.Prelude.{Some, None}
-use Rattle.number_sets.specs.Sets.{has}
-use Rattle.problem_rules.specs.Problem.{Problem}
-use Rattle.pns_rules.specs.Shape.{shape_of}
-use Rattle.pns_rules.specs.Structure.{IsStructure, IsAllowed}
-use Rattle.flow_rules.specs.Net.{net_of}
-use Rattle.flow_rules.specs.Flows.{cost}
-use Rattle.flow_rules.specs.Steps.{IsFirstPast}
-use Rattle.flow_rules.specs.CostSteps.{cost_steps}
-use Rattle.tree_rules.specs.Claim.{Network, CostOver, IsSized, size_in, IsFeasible}
-use Rattle.tree_rules.specs.Costs.{CostsEnough}
+use Rattle.rank_rules.specs.number_sets.Sets.{has}
+use Rattle.rank_rules.specs.problem_rules.Problem.{Problem}
+use Rattle.rank_rules.specs.pns_rules.Shape.{shape_of}
+use Rattle.rank_rules.specs.pns_rules.Structure.{IsStructure, IsAllowed}
+use Rattle.rank_rules.specs.flow_rules.Net.{net_of}
+use Rattle.rank_rules.specs.flow_rules.Flows.{cost}
+use Rattle.rank_rules.specs.flow_rules.Steps.{IsFirstPast}
+use Rattle.rank_rules.specs.flow_rules.CostSteps.{cost_steps}
+use Rattle.rank_rules.specs.tree_rules.Claim.{Network, CostOver, IsSized, size_in, IsFeasible}
+use Rattle.rank_rules.specs.tree_rules.Costs.{CostsEnough}
 use Rattle.report_rules.specs.declared.spot.Spot.{Spot}
 use Rattle.report_rules.specs.declared.side.Side.{Side}
 use Rattle.report_rules.specs.declared.side.Side.TheVariants.{Below, Above}

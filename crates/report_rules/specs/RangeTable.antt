@@ -4,14 +4,14 @@
 use Rattle.std.specs.Prelude.{◌&&◌, ℕ, suc, ℤ, Bool, true, false, List, [], ◌∷◌, ◌++◌, filter}
 use Rattle.std.specs.Prelude.{codes, Option, Some, None, Result, Ok, Err, if◌then◌else◌}
 use Rattle.std.specs.Str.{bytes_eq}
-use Rattle.problem_rules.specs.Problem.{Problem}
-use Rattle.text_rules.specs.Amount.{amount_of}
-use Rattle.text_rules.specs.declared.TextKind.{TextKind}
-use Rattle.tree_text_rules.specs.Line.{Line, Token, lines_of, tokens_of, has_bytes}
-use Rattle.tree_text_rules.specs.Token.{mapped, told, unit_of, material_of}
-use Rattle.tree_text_rules.specs.Read.{Fault, on_line}
-use Rattle.tree_text_rules.specs.declared.TreeKind.{TreeKind}
-use Rattle.tree_text_rules.specs.declared.TreeKind.TheVariants.{BadLine, BadNumber}
+use Rattle.rank_rules.specs.problem_rules.Problem.{Problem}
+use Rattle.rank_rules.specs.text_rules.Amount.{amount_of}
+use Rattle.rank_rules.specs.text_rules.declared.TextKind.{TextKind}
+use Rattle.rank_rules.specs.tree_text_rules.Line.{Line, Token, lines_of, tokens_of, has_bytes}
+use Rattle.rank_rules.specs.tree_text_rules.Token.{mapped, told, unit_of, material_of}
+use Rattle.rank_rules.specs.tree_text_rules.Read.{Fault, on_line}
+use Rattle.rank_rules.specs.tree_text_rules.declared.TreeKind.{TreeKind}
+use Rattle.rank_rules.specs.tree_text_rules.declared.TreeKind.TheVariants.{BadLine, BadNumber}
 use Rattle.report_rules.specs.declared.spot.Spot.{Spot}
 use Rattle.report_rules.specs.declared.spot.Spot.TheVariants.{Price, Fix, Proportional}
 use Rattle.report_rules.specs.declared.end.End.{End}

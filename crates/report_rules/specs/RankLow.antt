@@ -1,15 +1,15 @@
 -- The lower bound of a ranking that is not finished: that of an ordinary tree, which is to prove
 -- its best network. In this tree a leaf that names a network is open, with its own bound.
 use Rattle.std.specs.Prelude.{◌≡◌, ℕ, Bool, List, [], ◌∷◌, Option, Some, None}
-use Rattle.problem_rules.specs.Problem.{Problem}
-use Rattle.pns_rules.specs.Shape.{shape_of}
-use Rattle.pns_rules.specs.Structure.{IsStructure, IsAllowed}
-use Rattle.tree_rules.specs.Tree.{TreeNode, End, branch, leaf}
-use Rattle.tree_rules.specs.Claim.{Claim, Network, network, unknown}
-use Rattle.tree_rules.specs.Leaf as leaves
-use Rattle.tree_rules.specs.Accepted.{Tree, first_node, IsPartial}
-use Rattle.tree_rules.specs.Costs.{CostsEnough}
-use Rattle.tree_rules.specs.Lower.{lower_bound}
+use Rattle.rank_rules.specs.problem_rules.Problem.{Problem}
+use Rattle.rank_rules.specs.pns_rules.Shape.{shape_of}
+use Rattle.rank_rules.specs.pns_rules.Structure.{IsStructure, IsAllowed}
+use Rattle.rank_rules.specs.tree_rules.Tree.{TreeNode, End, branch, leaf}
+use Rattle.rank_rules.specs.tree_rules.Claim.{Claim, Network, network, unknown}
+use Rattle.rank_rules.specs.tree_rules.Leaf as leaves
+use Rattle.rank_rules.specs.tree_rules.Accepted.{Tree, first_node, IsPartial}
+use Rattle.rank_rules.specs.tree_rules.Costs.{CostsEnough}
+use Rattle.rank_rules.specs.tree_rules.Lower.{lower_bound}
 use Rattle.rank_rules.specs.Leaf as ranks
 use Rattle.rank_rules.specs.Ranked as ranked
 use Rattle.rank_rules.specs.Ranked.{Ranking}

@@ -1,7 +1,7 @@
 -- What the tree of a ranking proves of its networks.
 use Rattle.std.specs.Prelude.{◌≡◌, ℕ, false, [], Option, None}
-use Rattle.problem_rules.specs.Problem.{Problem}
-use Rattle.tree_rules.specs.declared.why.Why.TheVariants.{Open}
+use Rattle.rank_rules.specs.problem_rules.Problem.{Problem}
+use Rattle.rank_rules.specs.tree_rules.declared.why.Why.TheVariants.{Open}
 use Rattle.rank_rules.specs.declared.why.RankWhy.{RankWhy}
 use Rattle.rank_rules.specs.declared.why.RankWhy.TheVariants.{Plain}
 use Rattle.rank_rules.specs.Networks.{ArePassing}

@@ -4,9 +4,9 @@
 use Rattle.std.specs.Prelude.{ℕ, ◌+◌, ◌==◌, List, [], ◌∷◌, ◌++◌, length, ℤ, pos, neg_ℤ, ◌*ℤ◌}
 use Rattle.std.specs.Prelude.{unsigned_abs, codes, decimal, if◌then◌else◌}
 use Rattle.std.specs.Ordering.{int_eq}
-use Rattle.number_sets.specs.Sets.{minus}
-use Rattle.problem_rules.specs.Problem.{Problem, unit_at}
-use Rattle.tree_rules.specs.Claim.{Network, size_in}
+use Rattle.rank_rules.specs.number_sets.Sets.{minus}
+use Rattle.rank_rules.specs.problem_rules.Problem.{Problem, unit_at}
+use Rattle.rank_rules.specs.tree_rules.Claim.{Network, size_in}
 use Rattle.report_rules.specs.declared.column.Sort.{Sort}
 use Rattle.report_rules.specs.declared.column.Sort.TheVariants.{Words, Numbers, Sums}
 use Rattle.report_rules.specs.Number.{Number, times, plus, share_text}

@@ -5,12 +5,12 @@ use Rattle.std.specs.Prelude.{ℕ, ◌*◌, ◌&&◌, Bool, false, not, List, []
 use Rattle.std.specs.Prelude.{length, ℤ, pos, neg_ℤ, ◌*ℤ◌, cond, unsigned_abs, int_lt, codes}
 use Rattle.std.specs.Prelude.{decimal, if◌then◌else◌}
 use Rattle.std.specs.Ordering.{int_eq}
-use Rattle.number_sets.specs.Sets.{has, listed}
-use Rattle.problem_rules.specs.Problem.{Problem, unit_at, material_at, is_raw_material}
-use Rattle.text_rules.specs.Canonical.{kind_word}
-use Rattle.flow_rules.specs.Net.{net_of, materials_of, million}
-use Rattle.flow_rules.specs.Flows.{balance}
-use Rattle.tree_rules.specs.Claim.{Network, size_in}
+use Rattle.rank_rules.specs.number_sets.Sets.{has, listed}
+use Rattle.rank_rules.specs.problem_rules.Problem.{Problem, unit_at, material_at, is_raw_material}
+use Rattle.rank_rules.specs.text_rules.Canonical.{kind_word}
+use Rattle.rank_rules.specs.flow_rules.Net.{net_of, materials_of, million}
+use Rattle.rank_rules.specs.flow_rules.Flows.{balance}
+use Rattle.rank_rules.specs.tree_rules.Claim.{Network, size_in}
 use Rattle.report_rules.specs.Decimal.{six_digits}
 use Rattle.report_rules.specs.declared.column.Sort.{Sort}
 use Rattle.report_rules.specs.declared.column.Sort.TheVariants.{Words, Numbers, Sums}

@@ -1,7 +1,8 @@
 -- How little a cost can rise as one price or cost moves away from its present value.
 use Rattle.std.specs.Prelude.{ℕ, ℤ, pos, neg_ℤ, ◌*ℤ◌, cond}
-use Rattle.problem_rules.specs.Problem.{Problem, material_at, unit_at, is_raw_material, is_product}
-use Rattle.flow_rules.specs.Net.{million, trillion}
+use Rattle.rank_rules.specs.problem_rules.Problem.{Problem, material_at, unit_at, is_raw_material}
+use Rattle.rank_rules.specs.problem_rules.Problem.{is_product}
+use Rattle.rank_rules.specs.flow_rules.Net.{million, trillion}
 use Rattle.report_rules.specs.declared.spot.Spot.{Spot}
 use Rattle.report_rules.specs.declared.spot.Spot.TheVariants.{Price, Fix, Proportional}
 use Rattle.report_rules.specs.declared.side.Side.{Side}

@@ -1,7 +1,7 @@
 -- A price or a cost that may vary, and the problem with another value there. Values are whole
 -- millionths.
 use Rattle.std.specs.Prelude.{ℕ, ◌<◌, length, slice_set, ℤ, pos, neg_ℤ, ◌+ℤ◌, ◌-ℤ◌, ◌≤ℤ◌}
-use Rattle.problem_rules.specs.Problem.{Problem, material_at, unit_at}
+use Rattle.rank_rules.specs.problem_rules.Problem.{Problem, material_at, unit_at}
 use Rattle.report_rules.specs.declared.spot.Spot.{Spot}
 use Rattle.report_rules.specs.declared.spot.Spot.TheVariants.{Price, Fix, Proportional}
 use Rattle.report_rules.specs.declared.side.Side.{Side}

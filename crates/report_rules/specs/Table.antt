@@ -3,14 +3,14 @@
 use Rattle.std.specs.Prelude.{◌≡◌, ℕ, ℤ, List, [], ◌∷◌, codes, flat_map}
 use Rattle.std.specs.Fmt.{signed_decimal}
 use Rattle.csv.specs.Writing.{default_writer, row_text}
-use Rattle.integer_laws.specs.Lowest.{IsLowest}
-use Rattle.integer_laws.specs.Fraction.{fraction_text}
-use Rattle.number_sets.specs.Sets.{has}
-use Rattle.problem_rules.specs.Problem.{Problem, unit_at, material_at}
-use Rattle.text_rules.specs.Canonical.{kind_word}
-use Rattle.flow_rules.specs.Net.{net_of, materials_of}
-use Rattle.flow_rules.specs.Flows.{balance}
-use Rattle.tree_rules.specs.Claim.{Network, size_in}
+use Rattle.rank_rules.specs.integer_laws.Lowest.{IsLowest}
+use Rattle.rank_rules.specs.integer_laws.Fraction.{fraction_text}
+use Rattle.rank_rules.specs.number_sets.Sets.{has}
+use Rattle.rank_rules.specs.problem_rules.Problem.{Problem, unit_at, material_at}
+use Rattle.rank_rules.specs.text_rules.Canonical.{kind_word}
+use Rattle.rank_rules.specs.flow_rules.Net.{net_of, materials_of}
+use Rattle.rank_rules.specs.flow_rules.Flows.{balance}
+use Rattle.rank_rules.specs.tree_rules.Claim.{Network, size_in}
 
 -- the text of a number over d: a fraction in lowest terms
 pub record IsQuotient (number d : ℤ) (text : List ℕ) : Type 0 where

@@ -1,7 +1,7 @@
 -- A number as JSON text: rounded in decimal, and exactly as a fraction.
 use Rattle.std.specs.Prelude.{◌*◌, ◌+◌, ◌^◌, ℕ, zero, suc, nat_lt, List, [], ◌∷◌, ◌++◌, Some, None}
 use Rattle.std.specs.Prelude.{ℤ, pos, unsigned_abs, int_lt, codes, if◌then◌else◌}
-use Rattle.integer_laws.specs.Fraction.{fraction_text}
+use Rattle.rank_rules.specs.integer_laws.Fraction.{fraction_text}
 use Rattle.report_rules.specs.Decimal.{rounded, scaled_text}
 use Rattle.report_rules.specs.Number.{Fraction, Number}
 use Rattle.report_rules.specs.Json.{null, quoted, member, object}

@@ -1,10 +1,11 @@
 -- What a branch tree proves of its claim, from the node at which nothing is decided. Leaves may be
 -- open.
 use Rattle.std.specs.Prelude.{◌≡◌, ℕ, true, Option, Some, None}
-use Rattle.problem_rules.specs.Problem.{Problem}
-use Rattle.tree_rules.specs.Claim.{Claim, CostOver, ClaimPasses}
-use Rattle.tree_rules.specs.Accepted.{Tree, first_node, IsAccepted, IsPartial, NodeIsFault}
-use Rattle.tree_rules.specs.Lower.{Low, lower_bound}
+use Rattle.rank_rules.specs.problem_rules.Problem.{Problem}
+use Rattle.rank_rules.specs.tree_rules.Claim.{Claim, CostOver, ClaimPasses}
+use Rattle.rank_rules.specs.tree_rules.Accepted.{Tree, first_node, IsAccepted, IsPartial}
+use Rattle.rank_rules.specs.tree_rules.Accepted.{NodeIsFault}
+use Rattle.rank_rules.specs.tree_rules.Lower.{Low, lower_bound}
 use Rattle.report_rules.specs.declared.lower_bound.LowerBound.{LowerBound}
 use Rattle.report_rules.specs.declared.verdict.Verdict.{Verdict}
 use Rattle.report_rules.specs.declared.verdict.Verdict.TheVariants.{Proved, Unfinished, Fails}

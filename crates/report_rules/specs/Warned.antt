@@ -4,12 +4,14 @@ use Rattle.std.specs.Prelude.{◌==◌, ◌%◌, ◌&&◌, ◌||◌, ℕ, ℤ, p
 use Rattle.std.specs.Prelude.{not, nat_le, List, take}
 use Rattle.std.specs.List.{list_all, list_any, count_by}
 use Rattle.std.specs.Ordering.{int_eq}
-use Rattle.problem_rules.specs.Problem.{Problem, Material, Term, OperatingUnit, Exclusion}
-use Rattle.problem_rules.specs.Problem.{material_at, unit_at, exclusion_at, is_raw_material}
-use Rattle.problem_rules.specs.Problem.{is_product, rate_in}
-use Rattle.text_rules.specs.Value.{much}
-use Rattle.pns_rules.specs.Shape.{shape_of}
-use Rattle.pns_rules.specs.Structure.{mats}
+use Rattle.rank_rules.specs.problem_rules.Problem.{Problem, Material, Term, OperatingUnit}
+use Rattle.rank_rules.specs.problem_rules.Problem.{Exclusion}
+use Rattle.rank_rules.specs.problem_rules.Problem.{material_at, unit_at, exclusion_at}
+use Rattle.rank_rules.specs.problem_rules.Problem.{is_raw_material}
+use Rattle.rank_rules.specs.problem_rules.Problem.{is_product, rate_in}
+use Rattle.rank_rules.specs.text_rules.Value.{much}
+use Rattle.rank_rules.specs.pns_rules.Shape.{shape_of}
+use Rattle.rank_rules.specs.pns_rules.Structure.{mats}
 use Rattle.report_rules.specs.declared.warning.Warning.{Warning}
 use Rattle.report_rules.specs.declared.warning.Warning.TheVariants.{NoNetwork, UnusedMaterial}
 use Rattle.report_rules.specs.declared.warning.Warning.TheVariants.{NoDemand, DefaultCapacity, Free}

@@ -1,5 +1,4 @@
-use tree_rules::LineWhy;
-use tree_rules::Why;
+use rank_rules::{LineWhy, Why};
 
 /// What a branch tree with a head proves of its claim.
 #[derive(Clone, Copy, Debug, PartialEq, Eq)]

@@ -64,6 +64,10 @@ pub use end::End;
 pub use headed_verdict::HeadedVerdict;
 pub use item::Item;
 pub use lower_bound::LowerBound;
+pub use rank_rules::{
+    HeadRefusal, LineWhy, MergeFault, Place, RankWhy, Refusal, TreeKind, Why, sums_are_last,
+    valid_is_proper,
+};
 pub use rank_verdict::RankVerdict;
 pub use role::Role;
 pub use row::Row;

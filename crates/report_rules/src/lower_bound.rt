@@ -1,5 +1,5 @@
 ghost use Rattle.std.specs.Prelude.{◌≤ℤ◌, pos};
-ghost use Rattle.integer_laws.specs.Range.{InRange};
+ghost use Rattle.rank_rules.specs.integer_laws.Range.{InRange};
 
 /// A cost over d that no network undercuts.
 #[derive(Clone, Copy, Debug, PartialEq, Eq)]

@@ -1,5 +1,5 @@
-use crate::end::End;
 use crate::Spot;
+use crate::end::End;
 
 /// The range of a price or of a cost, and the value that it has.
 #[derive(Clone, Copy, Debug, PartialEq, Eq)]

@@ -1,5 +1,5 @@
 use crate::lower_bound::LowerBound;
-use tree_rules::Why;
+use rank_rules::Why;
 
 /// What a branch tree proves of its claim.
 #[derive(Clone, Copy, Debug, PartialEq, Eq)]

@@ -1,7 +1,7 @@
 -- Lines appended one after another.
 use Rattle.std.proofs.Common.{◌≡◌, ℕ, List, [], ◌∷◌, ◌++◌, sym, ap, ◌∙◌, append_assoc, append-nil}
 use Rattle.std.specs.Prelude.{flat_map}
-use Rattle.pns_problem.specs.Printing.{printed}
+use Rattle.cert_check.specs.pns_problem.Printing.{printed}
 use Rattle.report_tables.proofs.Pieces.{after, after_five, printed-append}
 
 -- ---- walks

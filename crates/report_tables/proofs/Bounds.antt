@@ -2,7 +2,7 @@
 use Rattle.std.proofs.Common.{◌≡◌, ℤ, false, subst, arith}
 use Rattle.std.specs.Ordering.{int_eq}
 use Rattle.std.proofs.lemmas.Int.{ints}
-use Rattle.integer_laws.specs.Range.{InRange}
+use Rattle.cert_check.specs.integer_laws.Range.{InRange}
 
 int_ne : (z x : ℤ) → ¬ (z ≡ x) → int_eq z x ≡ false
 int_ne z x n = grind (arith, ints)

@@ -5,10 +5,10 @@ use Rattle.std.proofs.Common.{eqb-true, arith}
 use Rattle.std.specs.Prelude.{flat_map}
 use Rattle.std.specs.List.{AllByRecursion}
 use Rattle.std.proofs.lemmas.List.{length-map, drop_more}
-use Rattle.problem_rules.specs.Problem.{Problem}
-use Rattle.tree_rules.specs.Accepted.{Tree}
+use Rattle.text_lines.specs.problem_rules.Problem.{Problem}
+use Rattle.cert_check.specs.tree_rules.Accepted.{Tree}
 use Rattle.cert_check.specs.declared.open_leaf.OpenLeaf.{OpenLeaf}
-use Rattle.report_rules.specs.Clash.{RefutedAt, leaf_lines, count_line, leaves_lines}
+use Rattle.report_amounts.specs.report_rules.Clash.{RefutedAt, leaf_lines, count_line, leaves_lines}
 use Rattle.report_tables.specs.View.{leaf_of, leaves_of, IsGood}
 use Rattle.report_tables.proofs.LeafLists.{all_taken}
 

@@ -6,21 +6,23 @@ use Rattle.std.specs.Prelude.{slice_get, flat_map, Option}
 use Rattle.std.specs.List.{AllByRecursion}
 use Rattle.std.proofs.lemmas.Grind.{flat_map-append}
 use Rattle.std.proofs.lemmas.List.{drop_more, drop_all}
-use Rattle.problem_rules.specs.Problem.{Problem}
-use Rattle.pns_rules.specs.Shape.{Shape, shape_of}
-use Rattle.pns_rules.specs.Nodes.{Node}
-use Rattle.tree_rules.specs.Tree.{End, branch, leaf, TreeNode, children, HasChildren, IsForest}
-use Rattle.tree_rules.specs.Tree.{IsTree, after_all, EndPasses, below, Pass}
-use Rattle.tree_rules.specs.Claim.{CostOver}
-use Rattle.tree_rules.specs.Leaf.{Leaf, dead, clash, refuted, bounded, charged, untried, LeafPasses}
-use Rattle.tree_rules.specs.Accepted.{Tree}
-use Rattle.tree_text_rules.specs.OpenLeaves.{OpenAt, open_here, open_leaves}
-use Rattle.report_rules.specs.Clash.{RefutedAt, refuted_here, refuted_leaves}
+use Rattle.text_lines.specs.problem_rules.Problem.{Problem}
+use Rattle.cert_check.specs.pns_rules.Shape.{Shape, shape_of}
+use Rattle.cert_check.specs.pns_rules.Nodes.{Node}
+use Rattle.cert_check.specs.tree_rules.Tree.{End, branch, leaf, TreeNode, children, HasChildren}
+use Rattle.cert_check.specs.tree_rules.Tree.{IsForest}
+use Rattle.cert_check.specs.tree_rules.Tree.{IsTree, after_all, EndPasses, below, Pass}
+use Rattle.cert_check.specs.tree_rules.Claim.{CostOver}
+use Rattle.cert_check.specs.tree_rules.Leaf.{Leaf, dead, clash, refuted, bounded, charged, untried}
+use Rattle.cert_check.specs.tree_rules.Leaf.{LeafPasses}
+use Rattle.cert_check.specs.tree_rules.Accepted.{Tree}
+use Rattle.cert_check.specs.tree_text_rules.OpenLeaves.{OpenAt, open_here, open_leaves}
+use Rattle.report_amounts.specs.report_rules.Clash.{RefutedAt, refuted_here, refuted_leaves}
 use Rattle.cert_check.specs.Known.{KnowsInside}
 use Rattle.cert_check.specs.declared.open_leaf.OpenLeaf.{OpenLeaf}
 use Rattle.cert_check.specs.OpenLeaves.{leaf_at, leaves_at}
 use Rattle.cert_check.specs.Subtrees.{AllKnown}
-use Rattle.cert_check.proofs.KnownLemmas.{known_after_all, known_below, known_both}
+use Rattle.cert_check.proofs.Cited.{known_after_all, known_below, known_both}
 use Rattle.report_tables.specs.Opened.{opened_end, opened_node, ends_refuted, ys_of, is_refuted}
 use Rattle.report_tables.specs.Opened.{ys_in, refuted_in, refuted_at, leaf_in}
 use Rattle.report_tables.specs.View.{leaf_of, leaves_of, IsGood}

@@ -1,9 +1,9 @@
 -- The units outside a set.
 use Rattle.std.proofs.Common.{◌≡◌, ℕ, Bool, List, sym, ap, ◌∙◌}
 use Rattle.std.specs.Prelude.{nat_lt, not, ◌&&◌}
-use Rattle.number_sets.specs.Sets.{has, listed, minus, IsSet}
-use Rattle.number_sets.proofs.SetLemmas.{has-kept, has-listed, same_sets, IsRising-kept}
-use Rattle.number_sets.proofs.SetLemmas.{IsRising-listed}
+use Rattle.text_lines.specs.number_sets.Sets.{has, listed, minus, IsSet}
+use Rattle.text_lines.proofs.number_sets.Cited.{has-kept, has-listed, same_sets, IsRising-kept}
+use Rattle.text_lines.proofs.number_sets.Cited.{IsRising-listed}
 
 -- all units less those of a set
 pub left_out_is : (n : ℕ) (s all : List ℕ) → IsSet 128 all → ((u : ℕ) → has all u ≡ nat_lt u n)

@@ -7,26 +7,25 @@ use Rattle.std.proofs.Common.{inr, eqb-true}
 use Rattle.std.specs.Int.{w128}
 use Rattle.std.proofs.lemmas.Bool.{or_cases}
 use Rattle.std.proofs.lemmas.Int.{ints, fits_signed_from_abs}
-use Rattle.integer_laws.specs.Range.{InRange}
-use Rattle.integer_laws.specs.Total.{total}
-use Rattle.integer_laws.proofs.Ring.{mul-zero_z, mul_comm_z}
-use Rattle.integer_laws.proofs.Totals.{total-agree}
-use Rattle.number_sets.specs.Sets.{has, IsSet}
-use Rattle.problem_rules.specs.Problem.{Problem, rate_of}
-use Rattle.problem_rules.specs.WellFormed.{IsWellFormed}
-use Rattle.pns_rules.specs.Nodes.{Node}
-use Rattle.flow_rules.specs.Net.{Net, net_of}
-use Rattle.flow_rules.specs.Relaxed.{stays, units, rows, unit_cost, unit_low, fixed_cost}
-use Rattle.flow_rules.specs.Relaxed.{reduced_cost, row_part, unit_part}
-use Rattle.flow_rules.specs.Steps.{AreInRange}
-use Rattle.flow_rules.specs.BoundSteps.{least_steps, rows_steps, rows_at, reduced_steps}
-use Rattle.flow_rules.specs.BoundSteps.{unit_steps}
-use Rattle.flow_rules.specs.BoundSteps.{units_steps, bound_steps}
-use Rattle.flow_rules.proofs.SameLemmas.{Agree, all_had, reduced-same, bound_steps-same}
-use Rattle.flow_program.specs.Columns.{left_of}
-use Rattle.flow_program.specs.Entry.{entry}
-use Rattle.flow_program.specs.Rates.{AreRates}
-use Rattle.flow_program.proofs.BoundSumLemmas.{materials_are_rows, same_reduced}
+use Rattle.cert_check.specs.integer_laws.Range.{InRange}
+use Rattle.cert_check.specs.integer_laws.Total.{total}
+use Rattle.cert_check.proofs.integer_laws.Cited.{mul-zero_z, mul_comm_z, total-agree}
+use Rattle.text_lines.specs.number_sets.Sets.{has, IsSet}
+use Rattle.text_lines.specs.problem_rules.Problem.{Problem, rate_of}
+use Rattle.text_lines.specs.problem_rules.WellFormed.{IsWellFormed}
+use Rattle.cert_check.specs.pns_rules.Nodes.{Node}
+use Rattle.cert_check.specs.flow_rules.Net.{Net, net_of}
+use Rattle.cert_check.specs.flow_rules.Relaxed.{stays, units, rows, unit_cost, unit_low, fixed_cost}
+use Rattle.cert_check.specs.flow_rules.Relaxed.{reduced_cost, row_part, unit_part}
+use Rattle.cert_check.specs.flow_rules.Steps.{AreInRange}
+use Rattle.cert_check.specs.flow_rules.BoundSteps.{least_steps, rows_steps, rows_at, reduced_steps}
+use Rattle.cert_check.specs.flow_rules.BoundSteps.{unit_steps}
+use Rattle.cert_check.specs.flow_rules.BoundSteps.{units_steps, bound_steps}
+use Rattle.cert_check.proofs.flow_rules.Cited.{Agree, all_had, reduced-same, bound_steps-same}
+use Rattle.cert_check.specs.flow_program.Columns.{left_of}
+use Rattle.cert_check.specs.flow_program.Entry.{entry}
+use Rattle.cert_check.specs.flow_program.Rates.{AreRates}
+use Rattle.cert_check.proofs.flow_program.Cited.{materials_are_rows, same_reduced}
 
 nothing_times : (z : ℤ) → pos 0 *ℤ z ≡ pos 0
 nothing_times z = mul_comm_z (pos 0) z ∙ mul-zero_z z

@@ -1,5 +1,6 @@
 mod Appended
 mod Bounds
+pub mod Cited
 mod LeafLines
 mod LeafLists
 mod LeftOut
@@ -10,3 +11,4 @@ pub mod Pieces
 mod Printable
 mod SameLines
 mod Walk
+pub use Rattle.report_amounts.proofs as report_amounts

@@ -1,9 +1,9 @@
 -- The units of the problem that are in a set.
 use Rattle.std.proofs.Common.{◌≡◌, ℕ, Bool, List, sym, ap, ◌∙◌}
 use Rattle.std.specs.Prelude.{nat_lt, ◌&&◌}
-use Rattle.number_sets.specs.Sets.{has, listed, meet, IsSet}
-use Rattle.number_sets.proofs.SetLemmas.{has-meet, has-listed, same_sets, IsRising-kept}
-use Rattle.number_sets.proofs.SetLemmas.{IsRising-listed}
+use Rattle.text_lines.specs.number_sets.Sets.{has, listed, meet, IsSet}
+use Rattle.text_lines.proofs.number_sets.Cited.{has-meet, has-listed, same_sets, IsRising-kept}
+use Rattle.text_lines.proofs.number_sets.Cited.{IsRising-listed}
 
 pub named_are : (n : ℕ) (s all : List ℕ) → IsSet 128 all → ((u : ℕ) → has all u ≡ nat_lt u n)
     → meet all s ≡ listed n (has s)

@@ -3,9 +3,10 @@ use Rattle.std.proofs.Common.{◌≡◌, ℕ, ℤ, Bool, List, [], ◌∷◌, ap
 use Rattle.std.proofs.Common.{codes}
 use Rattle.std.specs.Prelude.{◌&&◌, not, int_lt, if◌then◌else◌}
 use Rattle.std.specs.Ordering.{int_eq}
-use Rattle.problem_rules.specs.Problem.{Problem, material_at, unit_at, is_raw_material}
-use Rattle.report_rules.specs.Clash.{material_here, unit_here, bound_line, material_line}
-use Rattle.report_rules.specs.Clash.{uses_lower}
+use Rattle.text_lines.specs.problem_rules.Problem.{Problem, material_at, unit_at, is_raw_material}
+use Rattle.report_amounts.specs.report_rules.Clash.{material_here, unit_here, bound_line}
+use Rattle.report_amounts.specs.report_rules.Clash.{material_line}
+use Rattle.report_amounts.specs.report_rules.Clash.{uses_lower}
 
 then_is : {X : Type 0} (b : Bool) (x y : X) → b ≡ true → x ≡ if b then x else y
 then_is true x y e = refl

@@ -2,7 +2,7 @@
 use Rattle.std.proofs.Common.{◌≡◌, ℕ, List, [], ◌∷◌, ◌++◌, map, refl, sym, ap, ◌∙◌, append_assoc}
 use Rattle.std.proofs.Common.{append-nil}
 use Rattle.std.specs.Prelude.{flat_map}
-use Rattle.pns_problem.specs.Printing.{printed}
+use Rattle.cert_check.specs.pns_problem.Printing.{printed}
 
 pub after : {X : Type 0} (old t1 t2 x y : List X) → t1 ≡ old ++ x → t2 ≡ t1 ++ y
     → t2 ≡ old ++ (x ++ y)

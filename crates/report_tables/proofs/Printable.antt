@@ -6,7 +6,7 @@ use Rattle.std.specs.List.{list_all}
 use Rattle.std.proofs.lemmas.Bool.{and_parts}
 use Rattle.std.proofs.lemmas.Bool.Decides.{nat_tests}
 use Rattle.std.proofs.lemmas.Str.{IsUtf8-from_ascii}
-use Rattle.report_rules.specs.Measures.{is_printable, is_measure}
+use Rattle.report_amounts.specs.report_rules.Measures.{is_printable, is_measure}
 
 low : (c : ℕ) → is_printable c ≡ true → c < 128
 low c h = grind (arith, nat_tests)

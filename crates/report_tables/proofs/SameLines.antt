@@ -2,12 +2,13 @@
 use Rattle.std.proofs.Common.{◌≡◌, ℕ, List, [], ◌∷◌, ◌++◌, refl, ap, ◌∙◌, ℤ, pos}
 use Rattle.std.specs.Prelude.{flat_map}
 use Rattle.std.specs.List.{AllByRecursion}
-use Rattle.problem_rules.specs.Problem.{Problem}
-use Rattle.pns_rules.specs.Nodes.{Node}
-use Rattle.flow_rules.specs.Net.{net_of}
-use Rattle.flow_rules.specs.Relaxed.{rows, units, lower_at, unit_low, reduced_cost}
-use Rattle.flow_rules.proofs.SameLemmas.{Agree, all_had}
-use Rattle.report_rules.specs.Clash.{material_here, material_lines, unit_here, unit_lines}
+use Rattle.text_lines.specs.problem_rules.Problem.{Problem}
+use Rattle.cert_check.specs.pns_rules.Nodes.{Node}
+use Rattle.cert_check.specs.flow_rules.Net.{net_of}
+use Rattle.cert_check.specs.flow_rules.Relaxed.{rows, units, lower_at, unit_low, reduced_cost}
+use Rattle.cert_check.proofs.flow_rules.Cited.{Agree, all_had}
+use Rattle.report_amounts.specs.report_rules.Clash.{material_here, material_lines, unit_here}
+use Rattle.report_amounts.specs.report_rules.Clash.{unit_lines}
 use Rattle.report_tables.proofs.Lefts.{reduced_by}
 
 same_pieces : (f g : ℕ → List (List ℕ)) (xs : List ℕ) → AllByRecursion (λ x. f x ≡ g x) xs

@@ -2,9 +2,10 @@
 use Rattle.std.proofs.Common.{◌≡◌, ℕ, zero, suc, ◌+◌, ◌-◌, ◌<◌, Bool, List, [], ◌∷◌, ◌++◌, drop}
 use Rattle.std.proofs.Common.{length, get_or, refl, sym, ap, ◌∙◌, append_assoc, arith}
 use Rattle.std.proofs.lemmas.List.{drop_more}
-use Rattle.report_rules.specs.declared.column.Sort.{Sort}
-use Rattle.report_rules.specs.Aligned.{spaces, cell_at, Column, column_at, columns_from, cell_text}
-use Rattle.report_rules.specs.Aligned.{gap_behind, line_text}
+use Rattle.report_amounts.specs.report_rules.declared.column.Sort.{Sort}
+use Rattle.report_amounts.specs.report_rules.Aligned.{spaces, cell_at, Column, column_at}
+use Rattle.report_amounts.specs.report_rules.Aligned.{columns_from, cell_text}
+use Rattle.report_amounts.specs.report_rules.Aligned.{gap_behind, line_text}
 
 pub next_space : (n : ℕ) → 0 < n → spaces n ≡ 32 ∷ spaces (n - 1)
 next_space zero h = absurd (omega arith)

@@ -1,10 +1,10 @@
 -- A tree in which each leaf is open, and what the tree itself has at the number of such a leaf.
 use Rattle.std.specs.Prelude.{ℤ, Bool, true, false, List, [], Option, Some, None, slice_get}
-use Rattle.tree_rules.specs.Tree.{End, branch, leaf, TreeNode}
-use Rattle.tree_rules.specs.Leaf.{Leaf, refuted, untried}
-use Rattle.tree_rules.specs.Accepted.{Tree}
-use Rattle.tree_text_rules.specs.OpenLeaves.{OpenAt}
-use Rattle.report_rules.specs.Clash.{RefutedAt, refuted_here}
+use Rattle.cert_check.specs.tree_rules.Tree.{End, branch, leaf, TreeNode}
+use Rattle.cert_check.specs.tree_rules.Leaf.{Leaf, refuted, untried}
+use Rattle.cert_check.specs.tree_rules.Accepted.{Tree}
+use Rattle.cert_check.specs.tree_text_rules.OpenLeaves.{OpenAt}
+use Rattle.report_amounts.specs.report_rules.Clash.{RefutedAt, refuted_here}
 
 abbrev pub opened_end : End Leaf → End Leaf
 opened_end (branch w) = branch w

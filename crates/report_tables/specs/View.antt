@@ -1,13 +1,13 @@
 -- Refuted leaves of the code, as the rules speak of them.
 use Rattle.std.specs.Prelude.{List, map}
-use Rattle.problem_rules.specs.Problem.{Problem}
-use Rattle.pns_rules.specs.Shape.{shape_of}
-use Rattle.tree_rules.specs.Leaf.{IsRefuted}
-use Rattle.tree_rules.specs.Accepted.{Tree}
+use Rattle.text_lines.specs.problem_rules.Problem.{Problem}
+use Rattle.cert_check.specs.pns_rules.Shape.{shape_of}
+use Rattle.cert_check.specs.tree_rules.Leaf.{IsRefuted}
+use Rattle.cert_check.specs.tree_rules.Accepted.{Tree}
 use Rattle.cert_check.specs.Known.{KnowsInside}
 use Rattle.cert_check.specs.declared.open_leaf.OpenLeaf.{OpenLeaf}
 use Rattle.cert_check.specs.OpenLeaves.{leaf_at}
-use Rattle.report_rules.specs.Clash.{RefutedAt}
+use Rattle.report_amounts.specs.report_rules.Clash.{RefutedAt}
 use Rattle.report_tables.specs.Opened.{leaf_in}
 
 abbrev pub leaf_of : Tree → OpenLeaf → RefutedAt

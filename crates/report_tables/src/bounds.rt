@@ -2,36 +2,36 @@
 ghost use Rattle.std.specs.Prelude.{◌≡◌, ◌<◌, ◌++◌, ◌∷◌, [], ℕ, pos, true, length, OnOk};
 ghost use Rattle.std.specs.Prelude.{◌<ℤ◌, ◌&&◌, not, int_lt, string_bytes};
 ghost use Rattle.std.specs.Ordering.{int_eq};
-ghost use Rattle.integer_laws.specs.Range.{InRange};
-ghost use Rattle.number_sets.specs.Sets.{has};
-ghost use Rattle.problem_rules.specs.Problem.{is_raw_material, rate_of};
-ghost use Rattle.pns_problem.specs.Kind.{kind_of};
-ghost use Rattle.pns_problem.specs.Printing.{printed};
-ghost use Rattle.pns_rules.specs.Shape.{shape_of};
-ghost use Rattle.pgraph.specs.View.{node_of};
-ghost use Rattle.flow_rules.specs.Net.{net_of};
-ghost use Rattle.flow_rules.specs.Relaxed as relaxed;
-ghost use Rattle.flow_rules.specs.Steps.{AreInRange};
-ghost use Rattle.flow_rules.specs.BoundSteps.{rows_at, reduced_steps};
-ghost use Rattle.flow_program.specs.Entry.{entry};
-ghost use Rattle.flow_program.specs.NodeSets.{AreSetsOf, AreNeeded};
+ghost use Rattle.cert_check.specs.integer_laws.Range.{InRange};
+ghost use Rattle.text_lines.specs.number_sets.Sets.{has};
+ghost use Rattle.text_lines.specs.problem_rules.Problem.{is_raw_material, rate_of};
+ghost use Rattle.cert_check.specs.pns_problem.Kind.{kind_of};
+ghost use Rattle.cert_check.specs.pns_problem.Printing.{printed};
+ghost use Rattle.cert_check.specs.pns_rules.Shape.{shape_of};
+ghost use Rattle.cert_check.specs.pgraph.View.{node_of};
+ghost use Rattle.cert_check.specs.flow_rules.Net.{net_of};
+ghost use Rattle.cert_check.specs.flow_rules.Relaxed as relaxed;
+ghost use Rattle.cert_check.specs.flow_rules.Steps.{AreInRange};
+ghost use Rattle.cert_check.specs.flow_rules.BoundSteps.{rows_at, reduced_steps};
+ghost use Rattle.cert_check.specs.flow_program.Entry.{entry};
+ghost use Rattle.cert_check.specs.flow_program.NodeSets.{AreSetsOf, AreNeeded};
 ghost use Rattle.cert_check.specs.Known.{KnowsInside};
-ghost use Rattle.tree_rules.specs.Leaf.{IsRefuted, multiplier};
-ghost use Rattle.report_rules.specs.Amounts.{quotient};
-ghost use Rattle.report_rules.specs.Clash.{bound_line, uses_lower, material_here};
-ghost use Rattle.report_rules.specs.Clash.{material_lines};
-ghost use Rattle.report_rules.specs.Clash.{unit_here, unit_lines};
+ghost use Rattle.cert_check.specs.tree_rules.Leaf.{IsRefuted, multiplier};
+ghost use Rattle.report_amounts.specs.report_rules.Amounts.{quotient};
+ghost use Rattle.report_amounts.specs.report_rules.Clash.{bound_line, uses_lower, material_here};
+ghost use Rattle.report_amounts.specs.report_rules.Clash.{material_lines};
+ghost use Rattle.report_amounts.specs.report_rules.Clash.{unit_here, unit_lines};
 
 use crate::left::left_after;
-use flow_program::{NodeSets, by_material, put_rates, sets_of, unit_numbers};
-use pgraph::Site;
-use pns_problem::{Kind, Problem};
+use cert_check::{
+    Kind, MatSet, Node, NodeSets, Problem, Site, UnitSet, by_material, put_rates, sets_of,
+    unit_numbers,
+};
 use report_amounts::{Number, material_of, unit_of};
 use std::alloc::AllocError;
-use unit_sets::{MatSet, Node, UnitSet};
 
 /// num / den.
-#[tactic(auto, unfolding(report_rules::specs::Amounts::quotient))]
+#[tactic(auto, unfolding(crate::specs::Unfolded::quotient))]
 fn quotient(num: i128, den: i128) -> Number
     requires num_in_range { InRange num }
     requires den_in_range { InRange den }

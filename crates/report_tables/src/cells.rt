@@ -1,7 +1,7 @@
 //! More cells in a row.
 ghost use Rattle.std.specs.Prelude.{◌≡◌, ◌++◌, ◌∷◌, [], IfOk, OnOk, map, string_bytes};
-ghost use Rattle.report_rules.specs.Measures.{with_measure};
-ghost use Rattle.report_rules.specs.Report.{number_cell, marginal_cell};
+ghost use Rattle.report_amounts.specs.report_rules.Measures.{with_measure};
+ghost use Rattle.report_amounts.specs.report_rules.Report.{number_cell, marginal_cell};
 
 use crate::measures::MeasureUnit;
 use crate::row::Row;
@@ -48,7 +48,7 @@ pub(crate) fn push_headings(
 }
 
 /// Appends the number with six digits if it has more, or `past` if it overflows.
-#[tactic(auto, unfolding(report_rules::specs::Report::number_cell))]
+#[tactic(auto, unfolding(crate::specs::Unfolded::number_cell))]
 pub(crate) fn push_digits(text: &mut String, number: &Number) -> Result<(), AllocError>
     ensures { OnOk result
         (string_bytes text.new ≡ string_bytes text.old ++ number_cell number.now) }
@@ -65,7 +65,7 @@ pub(crate) fn push_number(alloc: Global, row: &mut Row, number: &Number) -> Resu
 }
 
 /// Appends a marginal, or `-` if there are none.
-#[tactic(auto, unfolding(report_rules::specs::Report::marginal_cell))]
+#[tactic(auto, unfolding(crate::specs::Unfolded::marginal_cell))]
 pub(crate) fn push_marginal(
     alloc: Global,
     row: &mut Row,

@@ -2,23 +2,21 @@
 ghost use Rattle.std.specs.Prelude.{◌≡◌, ◌<◌, ◌^◌, ◌++◌, take, length, flat_map, IfOk, OnOk};
 ghost use Rattle.std.specs.Prelude.{string_bytes};
 ghost use Rattle.std.specs.List.{AllByRecursion};
-ghost use Rattle.number_sets.specs.Sets.{has};
-ghost use Rattle.pns_problem.specs.Printing.{printed};
-ghost use Rattle.pgraph.specs.View.{node_of};
-ghost use Rattle.tree_rules.specs.Claim.{infeasible};
-ghost use Rattle.tree_rules.specs.Accepted.{first_node, IsAccepted};
-ghost use Rattle.report_rules.specs.Clash.{names_of, node_line, leaf_lines, count_line};
-ghost use Rattle.report_rules.specs.Clash.{leaves_lines, clash_lines};
+ghost use Rattle.text_lines.specs.number_sets.Sets.{has};
+ghost use Rattle.cert_check.specs.pns_problem.Printing.{printed};
+ghost use Rattle.cert_check.specs.pgraph.View.{node_of};
+ghost use Rattle.cert_check.specs.tree_rules.Claim.{infeasible};
+ghost use Rattle.cert_check.specs.tree_rules.Accepted.{first_node, IsAccepted};
+ghost use Rattle.report_amounts.specs.report_rules.Clash.{names_of, node_line, leaf_lines};
+ghost use Rattle.report_amounts.specs.report_rules.Clash.{count_line};
+ghost use Rattle.report_amounts.specs.report_rules.Clash.{leaves_lines, clash_lines};
 ghost use Rattle.report_tables.specs.View.{leaf_of, leaves_of, IsGood};
 
 use crate::bounds::push_bounds;
 use crate::leaves::{multipliers_at, refuted_leaves};
-use branch_tree::{Tree, TreeNode};
-use cert_check::OpenLeaf;
-use pgraph::Site;
 use crate::push_names_or_none;
+use cert_check::{Node, OpenLeaf, Site, Tree, TreeNode, UnitSet};
 use std::alloc::{AllocError, Global};
-use unit_sets::{Node, UnitSet};
 
 /// Appends words, and the names of those of the units that the problem has.
 fn push_names(

@@ -1,12 +1,13 @@
 //! How wide columns are.
 ghost use Rattle.std.specs.Prelude.{◌≡◌, ◌++◌, ◌∷◌, [], IfOk, length};
-ghost use Rattle.report_rules.specs.Aligned.{cell_at, is_nothing, tells_nothing};
-ghost use Rattle.report_rules.specs.Aligned.{all_tell_nothing};
-ghost use Rattle.report_rules.specs.Aligned.{measured, greater, widest, numbers_at, column_at};
-ghost use Rattle.report_rules.specs.Aligned.{columns_from};
+ghost use Rattle.report_amounts.specs.report_rules.Aligned.{cell_at, is_nothing, tells_nothing};
+ghost use Rattle.report_amounts.specs.report_rules.Aligned.{all_tell_nothing};
+ghost use Rattle.report_amounts.specs.report_rules.Aligned.{measured, greater, widest, numbers_at};
+ghost use Rattle.report_amounts.specs.report_rules.Aligned.{column_at};
+ghost use Rattle.report_amounts.specs.report_rules.Aligned.{columns_from};
 
 use crate::row::Row;
-use report_rules::{Measure, Sort};
+use report_amounts::{Measure, Sort};
 use std::alloc::{AllocError, Global};
 use std::marker::Model;
 use text_lines::line::place_of;
@@ -22,7 +23,7 @@ pub(crate) struct Column {
 }
 
 impl Model for Column {
-    ghost use Rattle.report_rules.specs.Aligned as rules;
+    ghost use Rattle.report_amounts.specs.report_rules.Aligned as rules;
 
     ghost Value = { rules.Column };
 

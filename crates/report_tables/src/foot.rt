@@ -2,18 +2,16 @@
 ghost use Rattle.std.specs.Prelude.{◌≡◌, ◌<◌, ◌≤◌, ◌++◌, ◌∷◌, [], ℕ, true, OnOk, flat_map};
 ghost use Rattle.std.specs.Prelude.{length};
 ghost use Rattle.std.specs.Prelude.{string_bytes};
-ghost use Rattle.number_sets.specs.Sets.{has};
-ghost use Rattle.pns_problem.specs.Printing.{printed};
-ghost use Rattle.report_rules.specs.Report.{once_line, left_out, name_behind, names_or_none};
-ghost use Rattle.report_rules.specs.Report.{left_out_line, foot_lines};
+ghost use Rattle.text_lines.specs.number_sets.Sets.{has};
+ghost use Rattle.cert_check.specs.pns_problem.Printing.{printed};
+ghost use Rattle.report_amounts.specs.report_rules.Report.{once_line, left_out, name_behind};
+ghost use Rattle.report_amounts.specs.report_rules.Report.{names_or_none};
+ghost use Rattle.report_amounts.specs.report_rules.Report.{left_out_line, foot_lines};
 
 use crate::cells::push_digits;
-use branch_tree::Network;
-use pns_problem::Problem;
-use report_amounts::unit_sum;
-use report_rules::UnitAmount;
+use cert_check::{Network, Problem, UnitSet};
+use report_amounts::{UnitAmount, unit_sum};
 use std::alloc::AllocError;
-use unit_sets::UnitSet;
 
 fn push_once(text: &mut String, problem: &Problem, network: &Network) -> Result<(), AllocError>
     requires { (u : ℕ) → has network.now.units u ≡ true → u < length problem.now.units }

@@ -1,20 +1,17 @@
 //! The refuted leaves of a tree.
 ghost use Rattle.std.specs.Prelude.{◌≡◌, ◌<◌, ◌^◌, ◌∷◌, [], map, length, flat_map, slice_get};
 ghost use Rattle.std.specs.Prelude.{◌++◌, IfOk, OnOk};
-ghost use Rattle.pns_rules.specs.Shape.{shape_of};
-ghost use Rattle.tree_rules.specs.Accepted.{first_node};
-ghost use Rattle.tree_text_rules.specs.OpenLeaves.{open_leaves};
+ghost use Rattle.cert_check.specs.pns_rules.Shape.{shape_of};
+ghost use Rattle.cert_check.specs.tree_rules.Accepted.{first_node};
+ghost use Rattle.cert_check.specs.tree_text_rules.OpenLeaves.{open_leaves};
 ghost use Rattle.cert_check.specs.OpenLeaves.{leaf_at, leaves_at};
-ghost use Rattle.report_rules.specs.Clash.{refuted_leaves};
+ghost use Rattle.report_amounts.specs.report_rules.Clash.{refuted_leaves};
 ghost use Rattle.report_tables.specs.Opened.{opened_node, is_refuted, ys_in, refuted_at};
 ghost use Rattle.report_tables.specs.View.{leaves_of};
 
 use crate::opened::opened;
-use branch_tree::{End, Tree, TreeNode};
-use cert_check::{OpenLeaf, check_nodes};
-use pgraph::Site;
+use cert_check::{End, Node, OpenLeaf, Site, Tree, TreeNode, UnitSet, check_nodes};
 use std::alloc::{AllocError, Global};
-use unit_sets::{Node, UnitSet};
 
 /// All leaves with their nodes. Of an accepted tree the checker refuses no copy, so there is an
 /// error only if there is no memory.

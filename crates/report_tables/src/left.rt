@@ -1,12 +1,12 @@
 //! What multipliers leave of a cost.
 ghost use Rattle.std.specs.Prelude.{◌≡◌, ◌-ℤ◌, ◌*ℤ◌, pos, length};
-ghost use Rattle.integer_laws.specs.Range.{InRange};
-ghost use Rattle.flow_rules.specs.Steps.{AreInRange};
-ghost use Rattle.flow_rules.specs.BoundSteps.{reduced_steps};
-ghost use Rattle.flow_program.specs.Columns.{left_of};
-ghost use Rattle.flow_program.specs.Entry.{entry};
+ghost use Rattle.cert_check.specs.integer_laws.Range.{InRange};
+ghost use Rattle.cert_check.specs.flow_rules.Steps.{AreInRange};
+ghost use Rattle.cert_check.specs.flow_rules.BoundSteps.{reduced_steps};
+ghost use Rattle.cert_check.specs.flow_program.Columns.{left_of};
+ghost use Rattle.cert_check.specs.flow_program.Entry.{entry};
 
-use unit_sets::MatSet;
+use cert_check::MatSet;
 
 /// What is left after a row has paid for its rate.
 fn less_row(left: i128, y: i128, rate: i64) -> i128

@@ -41,6 +41,7 @@ mod text;
 mod units;
 
 pub use cells::push_words;
+pub use cert_check::Frac;
 pub use clash_text::clashes_of;
 pub use foot::{left_out, push_names_or_none};
 pub use materials::material_limit;
@@ -48,6 +49,12 @@ pub use measures::{MeasureUnit, Measures};
 pub use money::{push_low, push_total};
 pub use plant::Plant;
 pub use ranking::ranking_of;
+pub use report_amounts::{
+    HeadedVerdict, LowerBound, Marginals, Number, RankVerdict, Verdict, above_first, amount, cost,
+    cost_sum, gap_above, kind_word, marginals_of, material_of, material_table, materials_in, net,
+    price, push_gap, push_places, push_six_digits, share_above, share_of, size, size_at, unit_of,
+    unit_sum, unit_table,
+};
 pub use row::Row;
 pub use table::push_table;
 pub use text::report_of;

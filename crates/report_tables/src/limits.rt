@@ -1,11 +1,12 @@
 //! Whether a number is at one of its bounds.
 ghost use Rattle.std.specs.Prelude.{◌≡◌, ◌*ℤ◌, ℕ};
 ghost use Rattle.std.specs.Ordering.{int_eq};
-ghost use Rattle.integer_laws.specs.Range.{InRange};
-ghost use Rattle.report_rules.specs.Report.{idle_words, least_words, most_words, limit_words};
-ghost use Rattle.report_rules.specs.Report.{unbounded_or};
+ghost use Rattle.cert_check.specs.integer_laws.Range.{InRange};
+ghost use Rattle.report_amounts.specs.report_rules.Report.{idle_words, least_words, most_words};
+ghost use Rattle.report_amounts.specs.report_rules.Report.{limit_words};
+ghost use Rattle.report_amounts.specs.report_rules.Report.{unbounded_or};
 
-use exact_numbers::checked_product;
+use cert_check::checked_product;
 
 /// Whether z over d is the bound. A product that overflows is not z, which is in range.
 fn is_at(z: i128, bound: i128, d: i128) -> bool
@@ -18,14 +19,14 @@ fn is_at(z: i128, bound: i128, d: i128) -> bool
     }
 }
 
-#[tactic(auto, unfolding(report_rules::specs::Report::idle_words))]
+#[tactic(auto, unfolding(crate::specs::Unfolded::idle_words))]
 fn idle_words(idle: bool) -> &'static str
     ensures { result.now ≡ idle_words idle }
 {
     if idle { "idle" } else { "-" }
 }
 
-#[tactic(auto, unfolding(report_rules::specs::Report::least_words))]
+#[tactic(auto, unfolding(crate::specs::Unfolded::least_words))]
 fn least_words(idle: bool, lower: i128, z: i128, d: i128) -> &'static str
     requires { InRange z }
     ensures { result.now ≡ least_words idle lower z d }
@@ -39,7 +40,7 @@ fn least_words(idle: bool, lower: i128, z: i128, d: i128) -> &'static str
     }
 }
 
-#[tactic(auto, unfolding(report_rules::specs::Report::most_words))]
+#[tactic(auto, unfolding(crate::specs::Unfolded::most_words))]
 fn most_words(idle: bool, lower: i128, upper: i128, z: i128, d: i128) -> &'static str
     requires { InRange z }
     ensures { result.now ≡ most_words idle lower upper z d }
@@ -52,7 +53,7 @@ fn most_words(idle: bool, lower: i128, upper: i128, z: i128, d: i128) -> &'stati
 }
 
 /// The words; or `UNBOUNDED?`, if z over d is a bound that stands for none.
-#[tactic(auto, unfolding(report_rules::specs::Report::unbounded_or))]
+#[tactic(auto, unfolding(crate::specs::Unfolded::unbounded_or))]
 pub(crate) fn unbounded_or(none: i128, z: i128, d: i128, words: &'static str) -> &'static str
     requires { InRange z }
     ensures { result.now ≡ unbounded_or none z d words.now }
@@ -65,7 +66,7 @@ pub(crate) fn unbounded_or(none: i128, z: i128, d: i128, words: &'static str) ->
 }
 
 /// The word for the bound, if any, that z over d is at.
-#[tactic(auto, unfolding(report_rules::specs::Report::limit_words))]
+#[tactic(auto, unfolding(crate::specs::Unfolded::limit_words))]
 pub(crate) fn limit_words(idle: bool, lower: i128, upper: i128, z: i128, d: i128) -> &'static str
     requires { InRange z }
     ensures { result.now ≡ limit_words idle lower upper z d }

@@ -1,11 +1,12 @@
 //! A row as a line.
 ghost use Rattle.std.specs.Prelude.{◌≡◌, ◌++◌, ◌∷◌, [], true, false, OnOk, string_bytes};
-ghost use Rattle.report_rules.specs.Aligned.{spaces, shown, gap_left, before, behind, cell_text};
-ghost use Rattle.report_rules.specs.Aligned.{gap_behind, line_text};
+ghost use Rattle.report_amounts.specs.report_rules.Aligned.{spaces, shown, gap_left, before};
+ghost use Rattle.report_amounts.specs.report_rules.Aligned.{behind, cell_text};
+ghost use Rattle.report_amounts.specs.report_rules.Aligned.{gap_behind, line_text};
 
 use crate::column::{Column, measured};
 use crate::row::Row;
-use report_rules::{Measure, Sort};
+use report_amounts::{Measure, Sort};
 use std::alloc::{AllocError, Global};
 
 fn push_spaces(text: &mut String, count: usize) -> Result<(), AllocError>

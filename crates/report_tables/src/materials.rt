@@ -1,22 +1,26 @@
 //! The table of materials.
 ghost use Rattle.std.specs.Prelude.{◌≡◌, ◌<◌, ◌++◌, ◌∷◌, [], ◌*ℤ◌, ℕ, true, IfOk, OnOk, map};
 ghost use Rattle.std.specs.Prelude.{length, string_bytes};
-ghost use Rattle.integer_laws.specs.Range.{InRange};
-ghost use Rattle.number_sets.specs.Sets.{has};
-ghost use Rattle.problem_rules.specs.Problem.{material_at, is_raw_material};
-ghost use Rattle.pns_problem.specs.Kind.{kind_of};
-ghost use Rattle.pns_problem.specs.Printing.{printed};
-ghost use Rattle.text_rules.specs.Canonical.{kind_word};
-ghost use Rattle.flow_rules.specs.Net.{net_of, materials_of, million};
-ghost use Rattle.tree_rules.specs.Claim.{IsFeasible};
-ghost use Rattle.report_rules.specs.declared.amount.UnitAmount.TheVariants.{Made, Used};
-ghost use Rattle.report_rules.specs.declared.cost_part.CostPart.TheVariants.{All};
-ghost use Rattle.report_rules.specs.Amounts.{unit_sum, net, price, cost, cost_sum};
-ghost use Rattle.report_rules.specs.Marginal.{marginal};
-ghost use Rattle.report_rules.specs.Report.{number_cell, bought_or_left, turned_flow, no_bound};
-ghost use Rattle.report_rules.specs.Report.{marginal_cell};
-ghost use Rattle.report_rules.specs.Report.{material_limit, material_heading, material_row};
-ghost use Rattle.report_rules.specs.Report.{all_materials_row, material_rows, material_lines};
+ghost use Rattle.cert_check.specs.integer_laws.Range.{InRange};
+ghost use Rattle.text_lines.specs.number_sets.Sets.{has};
+ghost use Rattle.text_lines.specs.problem_rules.Problem.{material_at, is_raw_material};
+ghost use Rattle.cert_check.specs.pns_problem.Kind.{kind_of};
+ghost use Rattle.cert_check.specs.pns_problem.Printing.{printed};
+ghost use Rattle.text_lines.specs.text_rules.Canonical.{kind_word};
+ghost use Rattle.cert_check.specs.flow_rules.Net.{net_of, materials_of, million};
+ghost use Rattle.cert_check.specs.tree_rules.Claim.{IsFeasible};
+ghost use Rattle.report_amounts.specs.report_rules.declared.amount.UnitAmount.TheVariants.{Made};
+ghost use Rattle.report_amounts.specs.report_rules.declared.amount.UnitAmount.TheVariants.{Used};
+ghost use Rattle.report_amounts.specs.report_rules.declared.cost_part.CostPart.TheVariants.{All};
+ghost use Rattle.report_amounts.specs.report_rules.Amounts.{unit_sum, net, price, cost, cost_sum};
+ghost use Rattle.report_amounts.specs.report_rules.Marginal.{marginal};
+ghost use Rattle.report_amounts.specs.report_rules.Report.{number_cell, bought_or_left};
+ghost use Rattle.report_amounts.specs.report_rules.Report.{turned_flow, no_bound};
+ghost use Rattle.report_amounts.specs.report_rules.Report.{marginal_cell};
+ghost use Rattle.report_amounts.specs.report_rules.Report.{material_limit, material_heading};
+ghost use Rattle.report_amounts.specs.report_rules.Report.{material_row};
+ghost use Rattle.report_amounts.specs.report_rules.Report.{all_materials_row, material_rows};
+ghost use Rattle.report_amounts.specs.report_rules.Report.{material_lines};
 
 use crate::cells::{
     push_heading, push_headings, push_marginal, push_number, push_numbers, push_words,
@@ -26,12 +30,11 @@ use crate::measures::Measures;
 use crate::plant::Plant;
 use crate::row::Row;
 use crate::tables::push_table_and_gap;
-use branch_tree::Network;
-use pgraph::Site;
-use pns_problem::{Kind, Problem};
-use report_amounts::{kind_word, materials_in};
-use report_amounts::{Marginals, cost, cost_sum, flow_at, material_of, net, price, unit_sum};
-use report_rules::{CostPart, Sort, UnitAmount};
+use cert_check::{Kind, Network, Problem, Site};
+use report_amounts::{
+    CostPart, Marginals, Sort, UnitAmount, cost, cost_sum, flow_at, kind_word, material_of,
+    materials_in, net, price, unit_sum,
+};
 use std::alloc::{AllocError, Global};
 
 /// 1000000000 in 10^-12: a bound that stands for none.

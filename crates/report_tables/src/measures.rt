@@ -2,21 +2,24 @@
 ghost use Rattle.std.specs.Prelude.{◌≡◌, ◌<◌, ◌-◌, ◌^◌, ◌++◌, true, Some, IfOk, OnOk, length};
 ghost use Rattle.std.specs.Prelude.{string_bytes};
 ghost use Rattle.std.specs.List.{list_all};
-ghost use Rattle.text_rules.specs.Line.{lines_of};
-ghost use Rattle.text_rules.specs.Fault.{first_is_type};
-ghost use Rattle.report_rules.specs.Measures.{is_printable, is_measure, measure_from};
-ghost use Rattle.report_rules.specs.Measures.{names_measures, measure_among, measure_of};
-ghost use Rattle.report_rules.specs.Measures.{measures_of, with_measure, for_one, price_measure};
-ghost use Rattle.report_rules.specs.Measures.{time_words};
+ghost use Rattle.text_lines.specs.text_rules.Line.{lines_of};
+ghost use Rattle.text_lines.specs.text_rules.Fault.{first_is_type};
+ghost use Rattle.report_amounts.specs.report_rules.Measures.{is_printable, is_measure};
+ghost use Rattle.report_amounts.specs.report_rules.Measures.{measure_from};
+ghost use Rattle.report_amounts.specs.report_rules.Measures.{names_measures, measure_among};
+ghost use Rattle.report_amounts.specs.report_rules.Measures.{measure_of};
+ghost use Rattle.report_amounts.specs.report_rules.Measures.{measures_of, with_measure, for_one};
+ghost use Rattle.report_amounts.specs.report_rules.Measures.{price_measure};
+ghost use Rattle.report_amounts.specs.report_rules.Measures.{time_words};
 
 use std::alloc::{AllocError, Global};
 use std::marker::Model;
 use std::str;
+use text_lines::Section;
 use text_lines::field::{key_of, value_of};
 use text_lines::line::without_mark;
 use text_lines::lines::{Drops, Lines};
 use text_lines::section::section_after;
-use text_rules::Section;
 
 /// A unit of measure, if the text names one.
 #[derive(Drop)]
@@ -207,7 +210,7 @@ pub struct Measures {
 }
 
 impl Model for Measures {
-    ghost use Rattle.report_rules.specs.Measures as rules;
+    ghost use Rattle.report_amounts.specs.report_rules.Measures as rules;
 
     ghost Value = { rules.Measures };
 

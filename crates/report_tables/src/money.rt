@@ -1,28 +1,30 @@
 //! The table of money.
 ghost use Rattle.std.specs.Prelude.{◌≡◌, ◌<◌, ◌++◌, ◌∷◌, [], ℕ, true, IfOk, OnOk, length};
 ghost use Rattle.std.specs.Prelude.{string_bytes};
-ghost use Rattle.number_sets.specs.Sets.{has};
-ghost use Rattle.pns_problem.specs.Printing.{printed};
-ghost use Rattle.tree_rules.specs.Claim.{IsFeasible};
-ghost use Rattle.report_rules.specs.declared.amount.UnitAmount.TheVariants.{Fixed, Proportional};
-ghost use Rattle.report_rules.specs.declared.amount.UnitAmount.TheVariants.{Investment};
-ghost use Rattle.report_rules.specs.declared.cost_part.CostPart.TheVariants.{Costs, Incomes};
-ghost use Rattle.report_rules.specs.Amounts.{unit_sum, cost_sum};
-ghost use Rattle.report_rules.specs.Lower.{low_cell};
-ghost use Rattle.report_rules.specs.Report.{money_heading, money_row, total_cell, total_words};
-ghost use Rattle.report_rules.specs.Report.{total_row, money_rows, money_lines};
+ghost use Rattle.text_lines.specs.number_sets.Sets.{has};
+ghost use Rattle.cert_check.specs.pns_problem.Printing.{printed};
+ghost use Rattle.cert_check.specs.tree_rules.Claim.{IsFeasible};
+ghost use Rattle.report_amounts.specs.report_rules.declared.amount.UnitAmount.TheVariants.{Fixed};
+ghost use Rattle.report_amounts.specs.report_rules.declared.amount.UnitAmount.TheVariants.{Proportional};
+ghost use Rattle.report_amounts.specs.report_rules.declared.amount.UnitAmount.TheVariants.{Investment};
+ghost use Rattle.report_amounts.specs.report_rules.declared.cost_part.CostPart.TheVariants.{Costs};
+ghost use Rattle.report_amounts.specs.report_rules.declared.cost_part.CostPart.TheVariants.{Incomes};
+ghost use Rattle.report_amounts.specs.report_rules.Amounts.{unit_sum, cost_sum};
+ghost use Rattle.report_amounts.specs.report_rules.Lower.{low_cell};
+ghost use Rattle.report_amounts.specs.report_rules.Report.{money_heading, money_row, total_cell};
+ghost use Rattle.report_amounts.specs.report_rules.Report.{total_words};
+ghost use Rattle.report_amounts.specs.report_rules.Report.{total_row, money_rows, money_lines};
 
 use crate::cells::{push_heading, push_number};
 use crate::measures::Measures;
 use crate::plant::Plant;
 use crate::row::Row;
 use crate::tables::push_table_and_gap;
-use branch_tree::Network;
-use report_amounts::{push_six_digits, push_six_digits_down};
-use pgraph::Site;
-use pns_problem::Problem;
-use report_amounts::{Number, cost_sum, unit_sum};
-use report_rules::{CostPart, LowerBound, Sort, UnitAmount};
+use cert_check::{Network, Problem, Site};
+use report_amounts::{
+    CostPart, LowerBound, Number, Sort, UnitAmount, cost_sum, push_six_digits,
+    push_six_digits_down, unit_sum,
+};
 use std::alloc::{AllocError, Global};
 
 fn money_row(alloc: Global, words: &str, number: &Number) -> Result<Row, AllocError>
@@ -61,7 +63,7 @@ fn material_money(
 }
 
 /// The cost of the network in one year, with six digits if it has more.
-#[tactic(auto, unfolding(report_rules::specs::Report::total_cell))]
+#[tactic(auto, unfolding(crate::specs::Unfolded::total_cell))]
 pub fn push_total(text: &mut String, problem: &Problem, network: &Network) -> Result<(), AllocError>
     ensures { OnOk result
         (string_bytes text.new ≡ string_bytes text.old ++ total_cell problem.now network.now) }
@@ -73,7 +75,7 @@ pub fn push_total(text: &mut String, problem: &Problem, network: &Network) -> Re
 }
 
 /// The lower bound for one year, rounded down, with six digits if it has more.
-#[tactic(auto, unfolding(report_rules::specs::Lower::low_cell))]
+#[tactic(auto, unfolding(crate::specs::Unfolded::low_cell))]
 pub fn push_low(text: &mut String, problem: &Problem, low: &LowerBound) -> Result<(), AllocError>
     ensures { OnOk result
         (string_bytes text.new ≡ string_bytes text.old ++ low_cell problem.now low.now) }

@@ -1,9 +1,9 @@
 //! A copy of a tree in which each leaf is open.
 ghost use Rattle.std.specs.Prelude.{◌≡◌, map, IfOk};
-ghost use Rattle.branch_tree.specs.View.{end_of};
+ghost use Rattle.cert_check.specs.branch_tree.View.{end_of};
 ghost use Rattle.report_tables.specs.Opened.{opened_end, opened_node};
 
-use branch_tree::{End, Steps, Tree, TreeNode};
+use cert_check::{End, Steps, Tree, TreeNode};
 use std::alloc::{AllocError, Global};
 
 fn opened_end(end: &End) -> End

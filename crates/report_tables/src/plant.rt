@@ -1,5 +1,5 @@
 use crate::measures::Measures;
-use pgraph::Site;
+use cert_check::Site;
 
 /// A problem with its graph, and the units of measure that its text names.
 #[derive(Clone, Copy)]

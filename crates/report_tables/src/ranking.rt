@@ -1,13 +1,14 @@
 //! The table of a ranking.
 ghost use Rattle.std.specs.Prelude.{◌≡◌, ◌<◌, ◌+◌, ◌^◌, ◌++◌, ◌∷◌, [], IfOk, OnOk, length};
 ghost use Rattle.std.specs.Prelude.{decimal, string_bytes};
-ghost use Rattle.pns_problem.specs.Printing.{printed};
-ghost use Rattle.tree_rules.specs.Claim.{IsFeasible};
-ghost use Rattle.report_rules.specs.Report.{total_cell, report_lines};
-ghost use Rattle.report_rules.specs.Ranked.{share_above_cell, change_cell};
-ghost use Rattle.report_rules.specs.Ranked.{with_idle, idle_names, idle_cell, ranking_row};
-ghost use Rattle.report_rules.specs.Ranked.{ranking_heading, ranking_rows};
-ghost use Rattle.report_rules.specs.Ranked.{ranking_table, ranking_lines};
+ghost use Rattle.cert_check.specs.pns_problem.Printing.{printed};
+ghost use Rattle.cert_check.specs.tree_rules.Claim.{IsFeasible};
+ghost use Rattle.report_amounts.specs.report_rules.Report.{total_cell, report_lines};
+ghost use Rattle.report_amounts.specs.report_rules.Ranked.{share_above_cell, change_cell};
+ghost use Rattle.report_amounts.specs.report_rules.Ranked.{with_idle, idle_names, idle_cell};
+ghost use Rattle.report_amounts.specs.report_rules.Ranked.{ranking_row};
+ghost use Rattle.report_amounts.specs.report_rules.Ranked.{ranking_heading, ranking_rows};
+ghost use Rattle.report_amounts.specs.report_rules.Ranked.{ranking_table, ranking_lines};
 ghost use Rattle.report_tables.specs.First.{IsFirstFeasible};
 
 use crate::cells::{push_headings, push_number, push_words};
@@ -17,13 +18,11 @@ use crate::plant::Plant;
 use crate::row::Row;
 use crate::tables::push_table_and_gap;
 use crate::text::push_report;
-use branch_tree::Network;
-use pns_problem::Problem;
-use report_amounts::size_at;
-use report_amounts::{Marginals, above_first, change_of, place_of, push_word, share_above};
-use report_rules::Sort;
+use cert_check::{Network, Problem, UnitSet};
+use report_amounts::{
+    Marginals, Sort, above_first, change_of, place_of, push_word, share_above, size_at,
+};
 use std::alloc::{AllocError, Global};
-use unit_sets::UnitSet;
 
 fn push_place(alloc: Global, row: &mut Row, place: u32) -> Result<(), AllocError>
     ensures { OnOk result (row.new ≡ row.old ++ decimal place ∷ []) }
@@ -46,7 +45,7 @@ fn push_cost(
 }
 
 /// What the network costs more than the first in per cent, or `-` if that costs nothing.
-#[tactic(auto, unfolding(report_rules::specs::Ranked::share_above_cell))]
+#[tactic(auto, unfolding(crate::specs::Unfolded::share_above_cell))]
 fn push_share_above(
     alloc: Global,
     row: &mut Row,
@@ -79,7 +78,7 @@ fn push_change(
 }
 
 /// Appends the name of the unit if its size is 0.
-#[tactic(auto, unfolding(report_rules::specs::Ranked::with_idle))]
+#[tactic(auto, unfolding(crate::specs::Unfolded::with_idle))]
 fn push_if_idle(
     text: &mut String,
     problem: &Problem,

@@ -1,6 +1,6 @@
 //! A row of cells.
 ghost use Rattle.std.specs.Prelude.{◌≡◌, ◌++◌, ◌∷◌, [], IfOk, OnOk, OnErr, map, string_bytes};
-ghost use Rattle.report_rules.specs.Aligned.{cell_at};
+ghost use Rattle.report_amounts.specs.report_rules.Aligned.{cell_at};
 
 use crate::cells::push_words;
 use std::alloc::{AllocError, Global};

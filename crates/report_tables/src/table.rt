@@ -1,12 +1,12 @@
 //! All lines of a table.
 ghost use Rattle.std.specs.Prelude.{◌≡◌, ◌++◌, [], OnOk, string_bytes, map, true, false};
-ghost use Rattle.pns_problem.specs.Printing.{printed};
-ghost use Rattle.report_rules.specs.Aligned.{line_text, table_lines};
+ghost use Rattle.cert_check.specs.pns_problem.Printing.{printed};
+ghost use Rattle.report_amounts.specs.report_rules.Aligned.{line_text, table_lines};
 
 use crate::column::{Column, columns_of};
 use crate::line::push_line;
 use crate::row::Row;
-use report_rules::Sort;
+use report_amounts::Sort;
 use std::alloc::{AllocError, Global};
 
 fn push_rows(

@@ -1,11 +1,11 @@
 //! A table with an empty line after it.
 ghost use Rattle.std.specs.Prelude.{◌≡◌, ◌++◌, OnOk, string_bytes};
-ghost use Rattle.pns_problem.specs.Printing.{printed};
-ghost use Rattle.report_rules.specs.Report.{table_and_gap};
+ghost use Rattle.cert_check.specs.pns_problem.Printing.{printed};
+ghost use Rattle.report_amounts.specs.report_rules.Report.{table_and_gap};
 
 use crate::row::Row;
 use crate::table::push_table;
-use report_rules::Sort;
+use report_amounts::Sort;
 use std::alloc::{AllocError, Global};
 
 /// Appends the lines of a table with columns of these sorts, and an empty line.

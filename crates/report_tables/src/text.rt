@@ -1,12 +1,13 @@
 //! The whole report.
 ghost use Rattle.std.specs.Prelude.{◌≡◌, ◌<◌, ◌++◌, ◌∷◌, [], ℕ, true, IfOk, OnOk, length};
 ghost use Rattle.std.specs.Prelude.{unsigned_abs, string_bytes};
-ghost use Rattle.number_sets.specs.Sets.{has};
-ghost use Rattle.pns_problem.specs.Printing.{printed};
-ghost use Rattle.flow_rules.specs.Net.{net_of, materials_of};
-ghost use Rattle.tree_rules.specs.Claim.{IsFeasible};
-ghost use Rattle.report_rules.specs.Report.{counted, network_line, time_line, head_lines};
-ghost use Rattle.report_rules.specs.Report.{report_lines};
+ghost use Rattle.text_lines.specs.number_sets.Sets.{has};
+ghost use Rattle.cert_check.specs.pns_problem.Printing.{printed};
+ghost use Rattle.cert_check.specs.flow_rules.Net.{net_of, materials_of};
+ghost use Rattle.cert_check.specs.tree_rules.Claim.{IsFeasible};
+ghost use Rattle.report_amounts.specs.report_rules.Report.{counted, network_line, time_line};
+ghost use Rattle.report_amounts.specs.report_rules.Report.{head_lines};
+ghost use Rattle.report_amounts.specs.report_rules.Report.{report_lines};
 
 use crate::foot::push_foot;
 use crate::materials::push_materials;
@@ -14,11 +15,8 @@ use crate::measures::Measures;
 use crate::money::push_money;
 use crate::plant::Plant;
 use crate::units::push_units;
-use branch_tree::Network;
-use pgraph::Site;
-use pns_problem::Problem;
-use report_amounts::materials_in;
-use report_amounts::Marginals;
+use cert_check::{Network, Problem, Site};
+use report_amounts::{Marginals, materials_in};
 use std::alloc::{AllocError, Global};
 
 fn push_counted(text: &mut String, words: &str, number: u64) -> Result<(), AllocError>

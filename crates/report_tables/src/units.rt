@@ -2,19 +2,20 @@
 ghost use Rattle.std.specs.Prelude.{◌≡◌, ◌<◌, ◌++◌, ◌∷◌, [], ℕ, true, IfOk, OnOk, map};
 ghost use Rattle.std.specs.Prelude.{length};
 ghost use Rattle.std.specs.Prelude.{string_bytes};
-ghost use Rattle.number_sets.specs.Sets.{has};
-ghost use Rattle.pns_problem.specs.Printing.{printed};
-ghost use Rattle.report_rules.specs.Report.{share_cell, unit_limit, number_cell, marginal_cell};
-ghost use Rattle.report_rules.specs.Report.{unit_heading};
-ghost use Rattle.report_rules.specs.Report.{unit_row, all_units_row, unit_rows};
-ghost use Rattle.report_rules.specs.Report.{unit_lines};
-ghost use Rattle.report_rules.specs.Amounts.{size, amount, unit_sum};
-ghost use Rattle.report_rules.specs.Marginal.{unit_marginal};
-ghost use Rattle.report_rules.specs.declared.amount.UnitAmount.TheVariants.{Fixed};
-ghost use Rattle.report_rules.specs.declared.amount.UnitAmount.TheVariants.{Proportional};
-ghost use Rattle.report_rules.specs.declared.amount.UnitAmount.TheVariants.{Investment};
-ghost use Rattle.report_rules.specs.declared.amount.UnitAmount.TheVariants.{Total};
-ghost use Rattle.problem_rules.specs.Problem.{unit_at};
+ghost use Rattle.text_lines.specs.number_sets.Sets.{has};
+ghost use Rattle.cert_check.specs.pns_problem.Printing.{printed};
+ghost use Rattle.report_amounts.specs.report_rules.Report.{share_cell, unit_limit, number_cell};
+ghost use Rattle.report_amounts.specs.report_rules.Report.{marginal_cell};
+ghost use Rattle.report_amounts.specs.report_rules.Report.{unit_heading};
+ghost use Rattle.report_amounts.specs.report_rules.Report.{unit_row, all_units_row, unit_rows};
+ghost use Rattle.report_amounts.specs.report_rules.Report.{unit_lines};
+ghost use Rattle.report_amounts.specs.report_rules.Amounts.{size, amount, unit_sum};
+ghost use Rattle.report_amounts.specs.report_rules.Marginal.{unit_marginal};
+ghost use Rattle.report_amounts.specs.report_rules.declared.amount.UnitAmount.TheVariants.{Fixed};
+ghost use Rattle.report_amounts.specs.report_rules.declared.amount.UnitAmount.TheVariants.{Proportional};
+ghost use Rattle.report_amounts.specs.report_rules.declared.amount.UnitAmount.TheVariants.{Investment};
+ghost use Rattle.report_amounts.specs.report_rules.declared.amount.UnitAmount.TheVariants.{Total};
+ghost use Rattle.text_lines.specs.problem_rules.Problem.{unit_at};
 
 use crate::cells::{push_headings, push_marginal, push_number, push_numbers, push_words};
 use crate::limits::{limit_words, unbounded_or};
@@ -22,11 +23,10 @@ use crate::measures::Measures;
 use crate::plant::Plant;
 use crate::row::Row;
 use crate::tables::push_table_and_gap;
-use branch_tree::Network;
-use pns_problem::Problem;
-use report_amounts::size_at;
-use report_amounts::{Marginals, amount, share_of, size, unit_of, unit_sum};
-use report_rules::{Sort, UnitAmount};
+use cert_check::{Network, Problem};
+use report_amounts::{
+    Marginals, Sort, UnitAmount, amount, share_of, size, size_at, unit_of, unit_sum,
+};
 use std::alloc::{AllocError, Global};
 
 /// 1000000000 in millionths: a bound that stands for none.

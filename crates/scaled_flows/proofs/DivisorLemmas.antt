@@ -7,17 +7,18 @@ use Rattle.std.specs.Prelude.{int_div, unsigned_abs}
 use Rattle.std.specs.Int.{◌∣◌}
 use Rattle.std.specs.List.{AllByRecursion}
 use Rattle.std.proofs.lemmas.Int.{ints}
-use Rattle.integer_laws.specs.Total.{total}
-use Rattle.integer_laws.proofs.Ring.{mul_comm_z, mul_assoc_z, mul-add_z, mul-zero_z}
-use Rattle.integer_laws.proofs.LowestTerms.{part_divides}
-use Rattle.exact_numbers.proofs.Division.{quotient_exact}
-use Rattle.number_sets.specs.Sets.{any_below}
-use Rattle.number_sets.proofs.SetLemmas.{any_below-some, any_below-from}
-use Rattle.pns_rules.specs.Shape.{Shape}
-use Rattle.pns_rules.specs.Structure.{mats, is_used, is_made}
-use Rattle.pns_rules.specs.Nodes.{Node}
-use Rattle.flow_rules.specs.Net.{Net, million, size_cost}
-use Rattle.flow_rules.specs.Relaxed.{stays, row_low, row_high, unit_low, unit_cost, slope}
+use Rattle.tree_rules.specs.integer_laws.Total.{total}
+use Rattle.tree_rules.proofs.integer_laws.Cited.{mul_comm_z, mul_assoc_z, mul-add_z, mul-zero_z}
+use Rattle.tree_rules.proofs.integer_laws.Cited.{part_divides}
+use Rattle.flow_program.proofs.exact_numbers.Cited.{quotient_exact}
+use Rattle.tree_rules.specs.number_sets.Sets.{any_below}
+use Rattle.tree_rules.proofs.number_sets.Cited.{any_below-some, any_below-from}
+use Rattle.tree_rules.specs.pns_rules.Shape.{Shape}
+use Rattle.tree_rules.specs.pns_rules.Structure.{mats, is_used, is_made}
+use Rattle.tree_rules.specs.pns_rules.Nodes.{Node}
+use Rattle.tree_rules.specs.flow_rules.Net.{Net, million, size_cost}
+use Rattle.tree_rules.specs.flow_rules.Relaxed.{stays, row_low, row_high, unit_low, unit_cost}
+use Rattle.tree_rules.specs.flow_rules.Relaxed.{slope}
 use Rattle.scaled_flows.specs.Divisors.{Divisors, Divides, rate_divisor, AreDivisors}
 use Rattle.scaled_flows.proofs.SettledLemmas.{product_positive}
 

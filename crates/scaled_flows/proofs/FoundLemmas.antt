@@ -10,13 +10,13 @@ use Rattle.std.proofs.lemmas.Nat.Gcd.{dvd_refl, dvd_trans}
 use Rattle.std.proofs.Math.ListN.{get_or-append}
 use Rattle.std.proofs.Math.Seq.{get_or-append_seam}
 use borrow.Author.Count.{below_more}
-use Rattle.integer_laws.specs.Range.{InRange}
-use Rattle.number_sets.specs.Sets.{has, IsWithin}
-use Rattle.pns_rules.specs.Nodes.{Node}
-use Rattle.problem_rules.specs.Problem.{Problem, OperatingUnit, rate_of}
-use Rattle.flow_rules.specs.Net.{Net}
-use Rattle.flow_rules.specs.Relaxed.{row_low, row_high, unit_low, unit_cost}
-use Rattle.flow_program.proofs.WalkLemmas.{IsNext, rest_within, passed}
+use Rattle.tree_rules.specs.integer_laws.Range.{InRange}
+use Rattle.tree_rules.specs.number_sets.Sets.{has, IsWithin}
+use Rattle.tree_rules.specs.pns_rules.Nodes.{Node}
+use Rattle.tree_rules.specs.problem_rules.Problem.{Problem, OperatingUnit, rate_of}
+use Rattle.tree_rules.specs.flow_rules.Net.{Net}
+use Rattle.tree_rules.specs.flow_rules.Relaxed.{row_low, row_high, unit_low, unit_cost}
+use Rattle.flow_program.proofs.Cited.{IsNext, rest_within, passed}
 use Rattle.scaled_flows.specs.Found.{AreRateDivisors, AreUnitDivisors, DividesRow}
 
 -- what divides a divisor divides all that it divides

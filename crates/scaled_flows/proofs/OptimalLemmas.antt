@@ -2,17 +2,18 @@
 use Rattle.std.proofs.Common.{◌≡◌, ℕ, ◌<◌, true, sym, ap, ◌∙◌, subst, arith, pos, ℤ, ◌+ℤ◌, ◌*ℤ◌}
 use Rattle.std.proofs.Common.{◌≤ℤ◌, ◌<ℤ◌}
 use Rattle.std.proofs.lemmas.Int.{ints}
-use Rattle.integer_laws.specs.Total.{total}
-use Rattle.integer_laws.proofs.Ring.{V, ◌⊗◌, ◌⊕◌, ring, mul_assoc_z, mul_comm_z}
-use Rattle.integer_laws.proofs.Order.{mul-le_left, cancel_le}
-use Rattle.integer_laws.proofs.Totals.{total-agree, total-mul}
-use Rattle.problem_rules.specs.Problem.{Problem}
-use Rattle.pns_rules.specs.Structure.{mats}
-use Rattle.pns_rules.specs.Nodes.{Node}
-use Rattle.flow_rules.specs.Net.{Net, net_of}
-use Rattle.flow_rules.specs.Relaxed.{stays, units, rows, row_low, row_high, unit_low, unit_cost}
-use Rattle.flow_rules.specs.Relaxed.{fixed_cost, row_balance, IsRelaxed, relaxed_cost}
-use Rattle.flow_rules.proofs.ListedLemmas.{All-listed}
+use Rattle.tree_rules.specs.integer_laws.Total.{total}
+use Rattle.tree_rules.proofs.integer_laws.Cited.{V, ◌⊗◌, ◌⊕◌, ring, mul_assoc_z, mul_comm_z}
+use Rattle.tree_rules.proofs.integer_laws.Cited.{mul-le_left}
+use Rattle.tree_rules.proofs.integer_laws.Cited.{cancel_le, total-agree, total-mul}
+use Rattle.tree_rules.specs.problem_rules.Problem.{Problem}
+use Rattle.tree_rules.specs.pns_rules.Structure.{mats}
+use Rattle.tree_rules.specs.pns_rules.Nodes.{Node}
+use Rattle.tree_rules.specs.flow_rules.Net.{Net, net_of}
+use Rattle.tree_rules.specs.flow_rules.Relaxed.{stays, units, rows, row_low, row_high, unit_low}
+use Rattle.tree_rules.specs.flow_rules.Relaxed.{unit_cost}
+use Rattle.tree_rules.specs.flow_rules.Relaxed.{fixed_cost, row_balance, IsRelaxed, relaxed_cost}
+use Rattle.tree_rules.proofs.flow_rules.Cited.{All-listed}
 use Rattle.tree_rules.specs.Lean.{HasCheaper}
 use Rattle.scaled_flows.specs.Divisors.{Divisors, rate_divisor, AreDivisors}
 use Rattle.scaled_flows.specs.Scaled.{scaled_rate, size_floor, size_ceiling, row_floor, row_ceiling}

@@ -7,26 +7,22 @@ use Rattle.std.specs.Prelude.{int_div, IfSome, SomeIff}
 use Rattle.std.specs.Ordering.{int_eq}
 use Rattle.std.proofs.lemmas.Int.{ints}
 use Rattle.std.proofs.lemmas.Bool.{lt-ltb}
-use Rattle.integer_laws.specs.Total.{total}
-use Rattle.integer_laws.proofs.Order.{zero_of-mul}
-use Rattle.integer_laws.proofs.Ring.{mul_comm_z, mul-zero_z}
-use Rattle.integer_laws.proofs.Totals.{total-agree}
-use Rattle.number_sets.specs.Sets.{has, listed, IsSet}
-use Rattle.number_sets.proofs.SetLemmas.{has-listed}
-use Rattle.problem_rules.specs.Problem.{Problem}
-use Rattle.problem_rules.specs.WellFormed.{IsWellFormed}
-use Rattle.pns_rules.specs.Structure.{mats}
-use Rattle.pns_rules.specs.Nodes.{Node}
-use Rattle.flow_rules.specs.Net.{Net, net_of}
-use Rattle.flow_rules.specs.Relaxed.{stays, units, rows, unit_cost, fixed_cost}
-use Rattle.flow_rules.specs.FeasibleSteps.{units_at}
-use Rattle.flow_rules.specs.BoundSteps.{rows_at}
-use Rattle.flow_rules.proofs.ListedLemmas.{total-sets}
-use Rattle.flow_rules.proofs.SameLemmas.{all_had}
-use Rattle.flow_rules.proofs.ZeroLemmas.{zero_from}
+use Rattle.tree_rules.specs.integer_laws.Total.{total}
+use Rattle.tree_rules.proofs.integer_laws.Cited.{zero_of-mul, mul_comm_z, mul-zero_z, total-agree}
+use Rattle.tree_rules.specs.number_sets.Sets.{has, listed, IsSet}
+use Rattle.tree_rules.proofs.number_sets.Cited.{has-listed}
+use Rattle.tree_rules.specs.problem_rules.Problem.{Problem}
+use Rattle.tree_rules.specs.problem_rules.WellFormed.{IsWellFormed}
+use Rattle.tree_rules.specs.pns_rules.Structure.{mats}
+use Rattle.tree_rules.specs.pns_rules.Nodes.{Node}
+use Rattle.tree_rules.specs.flow_rules.Net.{Net, net_of}
+use Rattle.tree_rules.specs.flow_rules.Relaxed.{stays, units, rows, unit_cost, fixed_cost}
+use Rattle.tree_rules.specs.flow_rules.FeasibleSteps.{units_at}
+use Rattle.tree_rules.specs.flow_rules.BoundSteps.{rows_at}
+use Rattle.tree_rules.proofs.flow_rules.Cited.{total-sets, all_had, zero_from}
 use Rattle.flow_program.specs.Entry.{entry}
 use Rattle.flow_program.specs.Rates.{AreRates}
-use Rattle.flow_program.proofs.BoundSumLemmas.{materials_are_rows}
+use Rattle.flow_program.proofs.Cited.{materials_are_rows}
 use Rattle.tree_rules.specs.Lean.{HasCheaper}
 use Rattle.scaled_flows.specs.Divisors.{Divisors, Divides, rate_divisor, AreDivisors, HasDivisors}
 use Rattle.scaled_flows.specs.Scaled.{scaled_rate, size_floor, size_ceiling, row_floor, row_ceiling}

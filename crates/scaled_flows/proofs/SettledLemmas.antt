@@ -2,7 +2,7 @@
 use Rattle.std.proofs.Common.{◌≡◌, ◌↔◌, sym, subst, arith, pos, ℤ, ◌*ℤ◌, ◌≤ℤ◌, ◌<ℤ◌}
 use Rattle.std.specs.Prelude.{int_div}
 use Rattle.std.proofs.lemmas.Int.{ints}
-use Rattle.integer_laws.proofs.Order.{mul-le_right, cancel_le}
+use Rattle.tree_rules.proofs.integer_laws.Cited.{mul-le_right, cancel_le}
 use Rattle.scaled_flows.specs.Divisors.{Divides}
 use Rattle.scaled_flows.specs.Settled.{IsSettled}
 

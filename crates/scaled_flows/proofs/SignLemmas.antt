@@ -3,12 +3,12 @@ use Rattle.std.proofs.Common.{◌≡◌, inl, inr, ap, ◌∙◌, arith, pos, �
 use Rattle.std.proofs.Common.{List}
 use Rattle.std.specs.List.{AllByRecursion}
 use Rattle.std.proofs.lemmas.Int.{ints}
-use Rattle.integer_laws.specs.Total.{total}
-use Rattle.integer_laws.proofs.Ring.{ring_z, V, ◌⊗◌, ring, mul_comm_z, mul-zero_z}
-use Rattle.integer_laws.proofs.Order.{sign_cases, zero_cases, mul_nonneg, mul-le_left}
-use Rattle.integer_laws.proofs.Order.{mul-le_left_neg, cancel_le}
-use Rattle.integer_laws.proofs.Totals.{total-le, total-mul}
-use Rattle.integer_laws.proofs.Duality.{reduced_costs}
+use Rattle.tree_rules.specs.integer_laws.Total.{total}
+use Rattle.tree_rules.proofs.integer_laws.Cited.{ring_z, V, ◌⊗◌, ring, mul_comm_z, mul-zero_z}
+use Rattle.tree_rules.proofs.integer_laws.Cited.{sign_cases}
+use Rattle.tree_rules.proofs.integer_laws.Cited.{zero_cases, mul_nonneg, mul-le_left}
+use Rattle.tree_rules.proofs.integer_laws.Cited.{mul-le_left_neg}
+use Rattle.tree_rules.proofs.integer_laws.Cited.{cancel_le, total-le, total-mul, reduced_costs}
 use Rattle.scaled_flows.specs.Settled.{IsSettled}
 
 -- the factors in another order

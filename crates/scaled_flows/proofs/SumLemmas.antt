@@ -2,10 +2,10 @@
 use Rattle.std.proofs.Common.{◌≡◌, ℕ, Bool, true, false, List, [], refl, sym, ap, ◌∙◌, arith, pos}
 use Rattle.std.proofs.Common.{ℤ, ◌+ℤ◌, ◌-ℤ◌}
 use Rattle.std.proofs.lemmas.Int.{ints}
-use Rattle.integer_laws.specs.Range.{InRange}
-use Rattle.integer_laws.specs.Total.{total}
-use Rattle.number_sets.specs.Sets.{has, IsWithin}
-use Rattle.flow_program.proofs.WalkLemmas.{IsNext, rest_within, passed}
+use Rattle.tree_rules.specs.integer_laws.Range.{InRange}
+use Rattle.tree_rules.specs.integer_laws.Total.{total}
+use Rattle.tree_rules.specs.number_sets.Sets.{has, IsWithin}
+use Rattle.flow_program.proofs.Cited.{IsNext, rest_within, passed}
 
 -- what `left` adds is still to be added to the sum
 pub record IsSumSoFar (f : ℕ → ℤ) (whole : List ℕ) (sum : ℤ) (left : List ℕ) : Type 0 where

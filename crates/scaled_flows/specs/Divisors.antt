@@ -3,11 +3,11 @@
 -- together with that of sizes, the ends of its row. One divides sizes, and one what a size costs.
 use Rattle.std.specs.Prelude.{◌≡◌, ℕ, ◌<◌, ℤ, pos, ◌*ℤ◌, ◌≤ℤ◌, true, List, length, slice_index_or}
 use Rattle.std.specs.Prelude.{int_div}
-use Rattle.number_sets.specs.Sets.{has}
-use Rattle.pns_rules.specs.Structure.{mats}
-use Rattle.pns_rules.specs.Nodes.{Node}
-use Rattle.flow_rules.specs.Net.{Net}
-use Rattle.flow_rules.specs.Relaxed.{stays, row_low, row_high, unit_low, unit_cost}
+use Rattle.tree_rules.specs.number_sets.Sets.{has}
+use Rattle.tree_rules.specs.pns_rules.Structure.{mats}
+use Rattle.tree_rules.specs.pns_rules.Nodes.{Node}
+use Rattle.tree_rules.specs.flow_rules.Net.{Net}
+use Rattle.tree_rules.specs.flow_rules.Relaxed.{stays, row_low, row_high, unit_low, unit_cost}
 
 pub record Divisors : Type 0 where
   -- one for each material

@@ -1,10 +1,10 @@
 -- Laws of scaled flows. Each holds for every problem and every node, and for any divisors of the
 -- problem's numbers.
 use Rattle.std.specs.Prelude.{◌≡◌, ℕ, ℤ, ◌*ℤ◌}
-use Rattle.problem_rules.specs.Problem.{Problem}
-use Rattle.pns_rules.specs.Nodes.{Node}
-use Rattle.flow_rules.specs.Net.{net_of}
-use Rattle.flow_rules.specs.Relaxed.{IsRelaxed, relaxed_cost}
+use Rattle.tree_rules.specs.problem_rules.Problem.{Problem}
+use Rattle.tree_rules.specs.pns_rules.Nodes.{Node}
+use Rattle.tree_rules.specs.flow_rules.Net.{net_of}
+use Rattle.tree_rules.specs.flow_rules.Relaxed.{IsRelaxed, relaxed_cost}
 use Rattle.scaled_flows.specs.Divisors.{Divisors, AreDivisors}
 use Rattle.scaled_flows.specs.Scaled.{value_over}
 use Rattle.scaled_flows.specs.Settled.{AreSettled}

@@ -1,9 +1,9 @@
 -- The least cost of a node's relaxed flows, as a number over another.
 use Rattle.std.specs.Prelude.{ℕ, ℤ, pos, ◌*ℤ◌, ◌≤ℤ◌}
-use Rattle.problem_rules.specs.Problem.{Problem}
-use Rattle.pns_rules.specs.Nodes.{Node}
-use Rattle.flow_rules.specs.Net.{net_of}
-use Rattle.flow_rules.specs.Relaxed.{IsRelaxed, relaxed_cost}
+use Rattle.tree_rules.specs.problem_rules.Problem.{Problem}
+use Rattle.tree_rules.specs.pns_rules.Nodes.{Node}
+use Rattle.tree_rules.specs.flow_rules.Net.{net_of}
+use Rattle.tree_rules.specs.flow_rules.Relaxed.{IsRelaxed, relaxed_cost}
 use Rattle.tree_rules.specs.Lean.{HasCheaper}
 
 -- no relaxed flows of the node cost less than `much` over `e`, and some cost no more

@@ -1,11 +1,11 @@
 -- The flow program of a node, divided: its scaled rates, ranges and costs, and what sizes cost and
 -- leave over by them.
 use Rattle.std.specs.Prelude.{ℕ, ℤ, ◌+ℤ◌, ◌-ℤ◌, ◌*ℤ◌, int_div}
-use Rattle.integer_laws.specs.Total.{total}
-use Rattle.pns_rules.specs.Nodes.{Node}
-use Rattle.flow_rules.specs.Net.{Net}
-use Rattle.flow_rules.specs.Relaxed.{units, rows, row_low, row_high, unit_low, unit_cost}
-use Rattle.flow_rules.specs.Relaxed.{fixed_cost}
+use Rattle.tree_rules.specs.integer_laws.Total.{total}
+use Rattle.tree_rules.specs.pns_rules.Nodes.{Node}
+use Rattle.tree_rules.specs.flow_rules.Net.{Net}
+use Rattle.tree_rules.specs.flow_rules.Relaxed.{units, rows, row_low, row_high, unit_low, unit_cost}
+use Rattle.tree_rules.specs.flow_rules.Relaxed.{fixed_cost}
 use Rattle.scaled_flows.specs.Divisors.{Divisors, rate_divisor}
 
 abbrev pub scaled_rate : Net → Divisors → ℕ → ℕ → ℤ

@@ -1,10 +1,10 @@
 -- Sizes and multipliers whose signs show that the sizes are optimal. Each size and each row is in
 -- its range, and at an end of it if a price pulls it there.
 use Rattle.std.specs.Prelude.{◌≡◌, ℕ, ◌<◌, ℤ, pos, ◌*ℤ◌, ◌≤ℤ◌, ◌<ℤ◌, true}
-use Rattle.pns_rules.specs.Structure.{mats}
-use Rattle.pns_rules.specs.Nodes.{Node}
-use Rattle.flow_rules.specs.Net.{Net}
-use Rattle.flow_rules.specs.Relaxed.{stays}
+use Rattle.tree_rules.specs.pns_rules.Structure.{mats}
+use Rattle.tree_rules.specs.pns_rules.Nodes.{Node}
+use Rattle.tree_rules.specs.flow_rules.Net.{Net}
+use Rattle.tree_rules.specs.flow_rules.Relaxed.{stays}
 use Rattle.scaled_flows.specs.Divisors.{Divisors}
 use Rattle.scaled_flows.specs.Scaled.{size_floor, size_ceiling, row_floor, row_ceiling}
 use Rattle.scaled_flows.specs.Scaled.{scaled_balance, price}

@@ -3,24 +3,22 @@
 ghost use Rattle.std.specs.Prelude.{◌≡◌, ◌<◌, ◌≤ℤ◌, ◌*ℤ◌, ℕ, pos, true, length, int_div};
 ghost use Rattle.std.specs.Prelude.{unsigned_abs, slice_index_or, IfOk};
 ghost use Rattle.std.specs.Int.{◌∣◌};
-ghost use Rattle.integer_laws.specs.Range.{InRange};
-ghost use Rattle.number_sets.specs.Sets.{has};
-ghost use Rattle.problem_rules.specs.Problem.{rate_of};
-ghost use Rattle.pns_rules.specs.Shape.{shape_of};
-ghost use Rattle.pgraph.specs.Tables.{shape};
-ghost use Rattle.pgraph.specs.View.{node_of};
-ghost use Rattle.flow_rules.specs.Net.{net_of};
-ghost use Rattle.flow_rules.specs.Relaxed.{row_low, row_high, unit_low, unit_cost};
+ghost use Rattle.tree_rules.specs.integer_laws.Range.{InRange};
+ghost use Rattle.tree_rules.specs.number_sets.Sets.{has};
+ghost use Rattle.tree_rules.specs.problem_rules.Problem.{rate_of};
+ghost use Rattle.tree_rules.specs.pns_rules.Shape.{shape_of};
+ghost use Rattle.flow_program.specs.pgraph.Tables.{shape};
+ghost use Rattle.flow_program.specs.pgraph.View.{node_of};
+ghost use Rattle.tree_rules.specs.flow_rules.Net.{net_of};
+ghost use Rattle.tree_rules.specs.flow_rules.Relaxed.{row_low, row_high, unit_low, unit_cost};
 ghost use Rattle.flow_program.specs.NodeSets.{AreNeeded};
 ghost use Rattle.scaled_flows.specs.Found.{AreRateDivisors, AreUnitDivisors, DividesRow};
 
 use crate::settled::scaled;
-use flow_program::{put_rates, rate_at, row_range, unit_numbers};
-use exact_numbers::{checked_product, gcd};
-use pgraph::Graph;
-use pns_problem::Problem;
+use flow_program::{
+    Graph, MatSet, Node, Problem, checked_product, gcd, put_rates, rate_at, row_range, unit_numbers,
+};
 use std::alloc::{AllocError, Global};
-use unit_sets::{MatSet, Node};
 
 /// The greatest common divisor of three numbers.
 fn with_both(common: i128, first: i128, second: i128) -> i128

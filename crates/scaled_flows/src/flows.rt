@@ -1,11 +1,11 @@
 //! The check of guessed flows.
 ghost use Rattle.std.specs.Prelude.{◌≡◌, ◌<◌, ℕ, true, IfSome};
-ghost use Rattle.exact_numbers.specs.Number.{numerator, denominator};
-ghost use Rattle.number_sets.specs.Sets.{has};
-ghost use Rattle.pns_rules.specs.Shape.{shape_of};
-ghost use Rattle.pgraph.specs.Tables.{shape};
-ghost use Rattle.pgraph.specs.View.{node_of};
-ghost use Rattle.flow_rules.specs.Net.{net_of};
+ghost use Rattle.flow_program.specs.exact_numbers.Number.{numerator, denominator};
+ghost use Rattle.tree_rules.specs.number_sets.Sets.{has};
+ghost use Rattle.tree_rules.specs.pns_rules.Shape.{shape_of};
+ghost use Rattle.flow_program.specs.pgraph.Tables.{shape};
+ghost use Rattle.flow_program.specs.pgraph.View.{node_of};
+ghost use Rattle.tree_rules.specs.flow_rules.Net.{net_of};
 ghost use Rattle.tree_rules.specs.Lean.{HasCheaper};
 ghost use Rattle.scaled_flows.specs.Divisors.{AreDivisors};
 
@@ -13,11 +13,7 @@ use crate::Scales;
 use crate::optimum::worth_of;
 use crate::rows::are_rows_settled;
 use crate::units::settled_costs;
-use flow_program::{by_unit, fixed_costs, sets_of};
-use exact_numbers::Mixed;
-use pgraph::Graph;
-use pns_problem::Problem;
-use unit_sets::Node;
+use flow_program::{Graph, Mixed, Node, Problem, by_unit, fixed_costs, sets_of};
 
 /// What guessed flows of the node cost, in 10^-18 of the money unit times the payout period. They
 /// are scaled sizes over `d`, one for each unit of the node's program in rising order. `None` if a

@@ -23,9 +23,13 @@ mod units;
 
 ghost use Rattle.scaled_flows.specs.Laws.{SettledAreRelaxed, CostIsCounted, SettledAreOptimal};
 
+pub use flow_program::{
+    Frac, Graph, Mixed, Node, Problem, Site, bound_of, cost_of, feasible, gcd, refutes, sets_of,
+};
 pub use flows::cost_of_sizes;
 pub use optimum::{Guessed, least_value};
 pub use scales::Scales;
+pub use tree_rules::{relaxed_duality, sums_are_last};
 
 /// If signs show that scaled sizes are optimal at a node, their cost is the least of the node's
 /// relaxed flows.

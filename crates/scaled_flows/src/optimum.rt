@@ -1,22 +1,18 @@
 //! The check of a guessed optimum.
 ghost use Rattle.std.specs.Prelude.{◌≡◌, ◌<◌, ◌≤ℤ◌, ◌*ℤ◌, ℕ, pos, true, IfSome};
-ghost use Rattle.exact_numbers.specs.Number.{numerator, denominator};
-ghost use Rattle.number_sets.specs.Sets.{has};
-ghost use Rattle.pns_rules.specs.Shape.{shape_of};
-ghost use Rattle.pgraph.specs.Tables.{shape};
-ghost use Rattle.pgraph.specs.View.{node_of};
-ghost use Rattle.flow_rules.specs.Net.{net_of};
+ghost use Rattle.flow_program.specs.exact_numbers.Number.{numerator, denominator};
+ghost use Rattle.tree_rules.specs.number_sets.Sets.{has};
+ghost use Rattle.tree_rules.specs.pns_rules.Shape.{shape_of};
+ghost use Rattle.flow_program.specs.pgraph.Tables.{shape};
+ghost use Rattle.flow_program.specs.pgraph.View.{node_of};
+ghost use Rattle.tree_rules.specs.flow_rules.Net.{net_of};
 ghost use Rattle.scaled_flows.specs.Divisors.{AreDivisors};
 ghost use Rattle.scaled_flows.specs.LeastCost.{IsLeastCost};
 
 use crate::Scales;
 use crate::rows::are_rows_settled;
 use crate::units::settled_costs;
-use flow_program::{by_material, by_unit, fixed_costs, sets_of};
-use exact_numbers::Mixed;
-use pgraph::Graph;
-use pns_problem::Problem;
-use unit_sets::Node;
+use flow_program::{Graph, Mixed, Node, Problem, by_material, by_unit, fixed_costs, sets_of};
 
 /// What was guessed of a node's program: scaled sizes over `d`, one for each unit of the program in
 /// rising order, and scaled multipliers over `scale`, one for each row in rising order.

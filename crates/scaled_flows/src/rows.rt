@@ -1,13 +1,13 @@
 //! What scaled sizes leave over of materials.
 ghost use Rattle.std.specs.Prelude.{◌≡◌, ◌<◌, ◌≤ℤ◌, ◌*ℤ◌, ℕ, pos, true, length, int_div, IsTrue};
 ghost use Rattle.std.specs.Prelude.{IfSome};
-ghost use Rattle.integer_laws.specs.Total.{total};
-ghost use Rattle.number_sets.specs.Sets.{has};
-ghost use Rattle.problem_rules.specs.Problem.{rate_of};
-ghost use Rattle.pns_rules.specs.Shape.{shape_of};
-ghost use Rattle.pgraph.specs.Tables.{shape};
-ghost use Rattle.pgraph.specs.View.{node_of};
-ghost use Rattle.flow_rules.specs.Net.{net_of};
+ghost use Rattle.tree_rules.specs.integer_laws.Total.{total};
+ghost use Rattle.tree_rules.specs.number_sets.Sets.{has};
+ghost use Rattle.tree_rules.specs.problem_rules.Problem.{rate_of};
+ghost use Rattle.tree_rules.specs.pns_rules.Shape.{shape_of};
+ghost use Rattle.flow_program.specs.pgraph.Tables.{shape};
+ghost use Rattle.flow_program.specs.pgraph.View.{node_of};
+ghost use Rattle.tree_rules.specs.flow_rules.Net.{net_of};
 ghost use Rattle.flow_program.specs.Entry.{entry};
 ghost use Rattle.flow_program.specs.NodeSets.{AreSetsOf};
 ghost use Rattle.scaled_flows.specs.Divisors.{Divides, AreDivisors};
@@ -15,11 +15,10 @@ ghost use Rattle.scaled_flows.specs.Settled.{IsRowSettled};
 
 use crate::Scales;
 use crate::settled::{is_settled, scaled, scaled_rate};
-use flow_program::{NodeSets, Range, rate_at, row_range, units_with};
-use exact_numbers::{checked_product, checked_sum};
-use pgraph::Graph;
-use pns_problem::Problem;
-use unit_sets::{Node, UnitSet};
+use flow_program::{
+    Graph, Node, NodeSets, Problem, Range, UnitSet, checked_product, checked_sum, rate_at,
+    row_range, units_with,
+};
 
 /// What scaled sizes of the units leave over of a material at its scaled rates.
 fn balance_of(

@@ -1,17 +1,14 @@
 //! The divisors of a problem's numbers.
 ghost use Rattle.std.specs.Prelude.{◌≡◌, ◌<◌, length, IfOk};
-ghost use Rattle.pns_rules.specs.Shape.{shape_of};
-ghost use Rattle.pgraph.specs.Tables.{shape};
-ghost use Rattle.flow_rules.specs.Net.{net_of};
+ghost use Rattle.tree_rules.specs.pns_rules.Shape.{shape_of};
+ghost use Rattle.flow_program.specs.pgraph.Tables.{shape};
+ghost use Rattle.tree_rules.specs.flow_rules.Net.{net_of};
 ghost use Rattle.scaled_flows.specs.Divisors.{rate_divisor, AreDivisors};
 
 use crate::divisors::{cost_divisor, narrowed, rate_divisors, unit_divisors, with_rows};
-use flow_program::sets_of;
-use pgraph::Graph;
-use pns_problem::Problem;
+use flow_program::{Graph, Node, Problem, UnitSet, sets_of};
 use std::alloc::{AllocError, Global};
 use std::marker::Model;
-use unit_sets::{Node, UnitSet};
 
 /// Common divisors of a problem's numbers, by which its flow programs are scaled. All are at least
 /// 1.

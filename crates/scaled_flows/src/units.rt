@@ -1,14 +1,14 @@
 //! The scaled sizes of units and what they cost.
 ghost use Rattle.std.specs.Prelude.{◌≡◌, ◌<◌, ◌≤ℤ◌, ◌-ℤ◌, ◌*ℤ◌, ℕ, pos, true, length, int_div};
 ghost use Rattle.std.specs.Prelude.{IfSome};
-ghost use Rattle.integer_laws.specs.Total.{total};
-ghost use Rattle.integer_laws.specs.Range.{InRange};
-ghost use Rattle.number_sets.specs.Sets.{has};
-ghost use Rattle.pns_rules.specs.Shape.{shape_of};
-ghost use Rattle.pgraph.specs.Tables.{shape};
-ghost use Rattle.pgraph.specs.View.{node_of};
-ghost use Rattle.flow_rules.specs.Net.{net_of};
-ghost use Rattle.flow_rules.specs.Relaxed.{units};
+ghost use Rattle.tree_rules.specs.integer_laws.Total.{total};
+ghost use Rattle.tree_rules.specs.integer_laws.Range.{InRange};
+ghost use Rattle.tree_rules.specs.number_sets.Sets.{has};
+ghost use Rattle.tree_rules.specs.pns_rules.Shape.{shape_of};
+ghost use Rattle.flow_program.specs.pgraph.Tables.{shape};
+ghost use Rattle.flow_program.specs.pgraph.View.{node_of};
+ghost use Rattle.tree_rules.specs.flow_rules.Net.{net_of};
+ghost use Rattle.tree_rules.specs.flow_rules.Relaxed.{units};
 ghost use Rattle.flow_program.specs.Entry.{entry};
 ghost use Rattle.scaled_flows.specs.Divisors.{Divides, AreDivisors, HasDivisors, rate_divisor};
 ghost use Rattle.scaled_flows.specs.Scaled.{size_costs};
@@ -16,11 +16,10 @@ ghost use Rattle.scaled_flows.specs.Settled.{IsSettled, IsSizeSettled};
 
 use crate::Scales;
 use crate::settled::{is_settled, scaled, scaled_rate};
-use flow_program::{Range, UnitNumbers, put_rates, unit_numbers};
-use exact_numbers::{checked_difference, checked_product, checked_sum};
-use pgraph::Graph;
-use pns_problem::Problem;
-use unit_sets::{MatSet, Node, UnitSet};
+use flow_program::{
+    Graph, MatSet, Node, Problem, Range, UnitNumbers, UnitSet, checked_difference, checked_product,
+    checked_sum, put_rates, unit_numbers,
+};
 
 /// A cost less what the multipliers of the materials pay for it at scaled rates.
 fn price_of(

@@ -2,13 +2,14 @@
 use Rattle.std.proofs.Common.{◌≡◌, ℕ, ◌==◌, Bool, true, false, not, ◌&&◌, ◌||◌, List, [], ◌∷◌}
 use Rattle.std.proofs.Common.{subst, inl, inr, eqb-true}
 use Rattle.std.proofs.lemmas.Bool.{or_cases, or_right, and_from, both_ways, false_from_ne_true}
-use Rattle.number_sets.specs.Sets.{has, Avoids}
-use Rattle.pns_rules.specs.Shape.{Shape, IsProper}
-use Rattle.pns_rules.specs.Nodes.{Node, Step, raw, rival, starve, loose, sole, IsPossible, after}
-use Rattle.pns_rules.specs.Nodes.{is_free, IsOption}
-use Rattle.tree_rules.specs.Ways.{Way, at_material, decides, child_at}
-use Rattle.tree_rules.specs.Tree.{StepsPass, after_all}
-use Rattle.tree_laws.proofs.WayLemmas.{IsChoice, free_parts, choices, child_apart}
+use Rattle.tree_laws.specs.number_sets.Sets.{has, Avoids}
+use Rattle.tree_laws.specs.pns_rules.Shape.{Shape, IsProper}
+use Rattle.tree_laws.specs.pns_rules.Nodes.{Node, Step, raw, rival, starve, loose, sole, IsPossible}
+use Rattle.tree_laws.specs.pns_rules.Nodes.{after}
+use Rattle.tree_laws.specs.pns_rules.Nodes.{is_free, IsOption}
+use Rattle.tree_laws.specs.tree_rules.Ways.{Way, at_material, decides, child_at}
+use Rattle.tree_laws.specs.tree_rules.Tree.{StepsPass, after_all}
+use Rattle.tree_laws.proofs.Cited.{IsChoice, free_parts, choices, child_apart}
 use Rattle.search_tree.specs.Below.{IsBelow}
 use Rattle.search_tree.specs.SearchLaws.{ChildrenAreBelow}
 

@@ -5,9 +5,9 @@ use Rattle.std.proofs.Common.{[], ◌∷◌, ◌++◌, length, refl, sym, ap, �
 use Rattle.std.proofs.Common.{ne_eqb, inl, inr}
 use Rattle.std.specs.List.{range_with_len}
 use Rattle.std.proofs.lemmas.Bool.{cases_eq}
-use Rattle.tree_rules.specs.Ways.{width}
-use Rattle.tree_rules.specs.Tree.{End, branch, leaf}
-use Rattle.tree_rules.specs.Leaf.{Leaf}
+use Rattle.tree_laws.specs.tree_rules.Ways.{width}
+use Rattle.tree_laws.specs.tree_rules.Tree.{End, branch, leaf}
+use Rattle.tree_laws.specs.tree_rules.Leaf.{Leaf}
 use Rattle.search_tree.specs.Cells.{Cell, cell_at, times, numbers_below, children_at, AreBehind}
 use Rattle.search_tree.specs.Cells.{IsParentOf, IsLinked}
 use Rattle.search_tree.specs.Preorder.{IsPreorder}

@@ -1,8 +1,7 @@
 -- The order of fractions by cross products, under positive denominators.
 use Rattle.std.proofs.Common.{arith, pos, ℤ, ◌*ℤ◌, ◌≤ℤ◌}
 use Rattle.std.proofs.lemmas.Int.{ints}
-use Rattle.integer_laws.proofs.Ring.{ring_z}
-use Rattle.integer_laws.proofs.Order.{mul-le_right, cancel_le}
+use Rattle.tree_laws.proofs.integer_laws.Cited.{ring_z, mul-le_right, cancel_le}
 
 -- p/q ≤ r/s and r/s ≤ t/u
 pub fraction_trans : (p q r s t u : ℤ) → pos 1 ≤ℤ q → pos 1 ≤ℤ s → pos 1 ≤ℤ u → (p *ℤ s) ≤ℤ (r *ℤ q)

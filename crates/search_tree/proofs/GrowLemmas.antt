@@ -5,23 +5,24 @@ use Rattle.std.proofs.Common.{Some, None}
 use Rattle.std.specs.List.{range_with_len}
 use Rattle.std.proofs.lemmas.Bool.{cases_eq}
 use Rattle.std.proofs.lemmas.Int.{ints}
-use Rattle.problem_rules.specs.Problem.{Problem}
-use Rattle.pns_rules.specs.Shape.{Shape, shape_of}
-use Rattle.pns_rules.specs.Nodes.{Node}
-use Rattle.tree_rules.specs.Ways.{Way, width, MayBranch, child_at}
-use Rattle.flow_rules.specs.Net.{net_of}
-use Rattle.flow_rules.specs.Relaxed.{bound}
-use Rattle.pgraph.specs.View.{node_of}
-use Rattle.tree_rules.specs.Tree.{End, branch, leaf, StepsPass, after_all}
-use Rattle.flow_rules.specs.ChargeFacts.{own_facts}
-use Rattle.flow_rules.specs.ChargeLeaf.{IsScale, charge_of, ChargeReaches}
-use Rattle.tree_rules.specs.Leaf.{Leaf, dead, clash, refuted, bounded, charged, untried, multiplier}
-use Rattle.tree_rules.specs.Leaf.{IsClaimed, LeafPasses}
-use Rattle.tree_rules.specs.Claim.{CostOver, IsAtLeast}
+use Rattle.tree_laws.specs.problem_rules.Problem.{Problem}
+use Rattle.tree_laws.specs.pns_rules.Shape.{Shape, shape_of}
+use Rattle.tree_laws.specs.pns_rules.Nodes.{Node}
+use Rattle.tree_laws.specs.tree_rules.Ways.{Way, width, MayBranch, child_at}
+use Rattle.tree_laws.specs.flow_rules.Net.{net_of}
+use Rattle.tree_laws.specs.flow_rules.Relaxed.{bound}
+use Rattle.branch_tree.specs.pgraph.View.{node_of}
+use Rattle.tree_laws.specs.tree_rules.Tree.{End, branch, leaf, StepsPass, after_all}
+use Rattle.tree_laws.specs.flow_rules.ChargeFacts.{own_facts}
+use Rattle.tree_laws.specs.flow_rules.ChargeLeaf.{IsScale, charge_of, ChargeReaches}
+use Rattle.tree_laws.specs.tree_rules.Leaf.{Leaf, dead, clash, refuted, bounded, charged, untried}
+use Rattle.tree_laws.specs.tree_rules.Leaf.{multiplier}
+use Rattle.tree_laws.specs.tree_rules.Leaf.{IsClaimed, LeafPasses}
+use Rattle.tree_laws.specs.tree_rules.Claim.{CostOver, IsAtLeast}
 use Rattle.search_tree.specs.Cells.{Cell, place_of, cell_at, times, numbers_below, children_at}
 use Rattle.search_tree.specs.Cells.{AreBehind, IsLinked}
 use Rattle.search_tree.specs.Fits.{Follows, IsBranch, EndFits, Fits}
-use Rattle.tree_rules.specs.Costs.{HasFallen}
+use Rattle.tree_laws.specs.tree_rules.Costs.{HasFallen}
 use Rattle.search_tree.specs.Values.{IsPositiveCost}
 use Rattle.search_tree.specs.Turns.{with_end, IsFreshChild, AreChildren, IsBranched, AreShut}
 use Rattle.search_tree.proofs.FractionLemmas.{fraction_trans}

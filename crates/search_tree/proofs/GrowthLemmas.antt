@@ -5,12 +5,12 @@ use Rattle.std.proofs.Common.{inr, ◌⊎◌, Option, Some, eq-eqb, ne_eqb, leng
 use Rattle.std.proofs.lemmas.Bool.{and_parts, and_from, both_ways, cases_eq, false_from_ne_true}
 use Rattle.std.proofs.lemmas.Bool.{not-true, or_cases, or_left}
 use Rattle.std.proofs.lemmas.List.{get_or_append_left, length-set}
-use Rattle.link_lists.specs.Lists.{has, without}
-use Rattle.link_lists.proofs.Cells.{has-here, has-later, has-without}
-use Rattle.exact_numbers.specs.declared.number.Mixed.{Mixed}
+use Rattle.node_pool.specs.link_lists.Lists.{has, without}
+use Rattle.node_pool.proofs.link_lists.Cited.{has-here, has-later, has-without}
+use Rattle.node_pool.specs.exact_numbers.declared.number.Mixed.{Mixed}
 use Rattle.node_pool.specs.Order.{is_at_least, placed}
 use Rattle.node_pool.specs.Pooled.{Pooled, IsShut, IsWithLeaf, with_shut, with_payload}
-use Rattle.node_pool.proofs.Order.{has-placed}
+use Rattle.node_pool.proofs.Cited.{has-placed}
 use Rattle.search_tree.specs.declared.growth.Fresh.{Fresh}
 use Rattle.search_tree.specs.Cells.{Cell, no_cell, cell_at}
 use Rattle.search_tree.specs.Growth.{is_open, AreOpenAfter, cells_in_turn, values_in_turn}

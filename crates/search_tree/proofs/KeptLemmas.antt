@@ -2,22 +2,23 @@
 use Rattle.std.proofs.Common.{◌≡◌, ℕ, zero, suc, ◌<◌, ◌≤◌, List, [], ◌∷◌, length, map, refl, sym}
 use Rattle.std.proofs.Common.{ap, ◌∙◌, subst, arith, inl, inr, Option, Some, None}
 use Rattle.std.proofs.lemmas.List.{length-map}
-use Rattle.number_sets.specs.Options.{IsIn}
-use Rattle.problem_rules.specs.Problem.{Problem}
-use Rattle.problem_rules.specs.Validity.{IsValid}
-use Rattle.pns_rules.specs.Shape.{Shape, shape_of}
-use Rattle.pns_rules.specs.Nodes.{Node}
-use Rattle.pns_rules.specs.Ends.{IsSound, IsDead, IsNever}
-use Rattle.tree_rules.specs.Ways.{Way, at_material, either, options_at, child_at, IsDecision}
-use Rattle.tree_rules.specs.Tree.{End, branch, leaf, after_all}
-use Rattle.tree_rules.specs.Leaf.{Leaf, dead, clash, refuted, bounded, charged, untried}
-use Rattle.tree_rules.specs.Leaf.{IsUntried}
-use Rattle.tree_rules.specs.Claim.{Claim, CostOver, claimed_cost}
-use Rattle.tree_rules.specs.Lean.{MayUndercut, IsNoDearer}
+use Rattle.tree_laws.specs.number_sets.Options.{IsIn}
+use Rattle.tree_laws.specs.problem_rules.Problem.{Problem}
+use Rattle.tree_laws.specs.problem_rules.Validity.{IsValid}
+use Rattle.tree_laws.specs.pns_rules.Shape.{Shape, shape_of}
+use Rattle.tree_laws.specs.pns_rules.Nodes.{Node}
+use Rattle.tree_laws.specs.pns_rules.Ends.{IsSound, IsDead, IsNever}
+use Rattle.tree_laws.specs.tree_rules.Ways.{Way, at_material, either, options_at, child_at}
+use Rattle.tree_laws.specs.tree_rules.Ways.{IsDecision}
+use Rattle.tree_laws.specs.tree_rules.Tree.{End, branch, leaf, after_all}
+use Rattle.tree_laws.specs.tree_rules.Leaf.{Leaf, dead, clash, refuted, bounded, charged, untried}
+use Rattle.tree_laws.specs.tree_rules.Leaf.{IsUntried}
+use Rattle.tree_laws.specs.tree_rules.Claim.{Claim, CostOver, claimed_cost}
+use Rattle.tree_laws.specs.tree_rules.Lean.{MayUndercut, IsNoDearer}
 use Rattle.search_tree.proofs.ValueLemmas.{ways_are_dearer}
 use Rattle.search_tree.specs.Cells.{Cell, place_of, cell_at}
 use Rattle.search_tree.specs.Growth.{EndsOpen}
-use Rattle.tree_rules.specs.Costs.{HasFallen}
+use Rattle.tree_laws.specs.tree_rules.Costs.{HasFallen}
 use Rattle.search_tree.specs.Values.{IsPositiveCost}
 use Rattle.search_tree.specs.Kept.{IsFromLast, ReachesLast, LeafIsKept, EndIsKept, IsKeptFor}
 use Rattle.search_tree.specs.Turns.{CanBranch, IsLeastOpen, AreChildren, IsBranched, AreShut}

@@ -5,25 +5,25 @@ use Rattle.std.specs.List.{slice_get}
 use Rattle.std.proofs.lemmas.Bool.{cases_eq}
 use Rattle.std.proofs.lemmas.Int.{ints}
 use Rattle.std.proofs.lemmas.List.{length-map}
-use Rattle.integer_laws.proofs.Order.{mul-le_right}
-use Rattle.problem_rules.specs.Problem.{Problem}
-use Rattle.problem_rules.specs.Validity.{IsValid}
-use Rattle.pns_rules.specs.Shape.{shape_of}
-use Rattle.pns_rules.specs.Structure.{IsBetween}
-use Rattle.pns_rules.specs.Nodes.{Node}
-use Rattle.pns_rules.specs.Ends.{IsDead, IsNever}
-use Rattle.flow_rules.specs.Net.{net_of}
-use Rattle.flow_rules.specs.Flows.{IsFlows, cost}
-use Rattle.flow_rules.specs.Relaxed.{relaxed_cost}
-use Rattle.flow_rules.proofs.DualityLemmas.{flows_are_relaxed, relaxed_costs_less}
-use Rattle.tree_rules.specs.Ways.{Way}
-use Rattle.tree_rules.specs.Tree.{End, branch, leaf, Stands}
-use Rattle.tree_rules.specs.Leaf.{Leaf, untried, Scaled, IsUntried, LeafPasses}
-use Rattle.tree_rules.specs.Claim.{Claim, unknown, CostOver, claimed_cost, ClaimPasses}
-use Rattle.tree_rules.specs.Lean.{MayUndercut, IsNoDearer, IsLean}
-use Rattle.tree_rules.specs.Stops.{IsOpenAt, IsPending, IsNextCount, IsSpent}
-use Rattle.tree_rules.specs.Accepted.{IsAccepted}
-use Rattle.tree_laws.proofs.AcceptedLemmas.{partial_is_accepted}
+use Rattle.tree_laws.proofs.integer_laws.Cited.{mul-le_right}
+use Rattle.tree_laws.specs.problem_rules.Problem.{Problem}
+use Rattle.tree_laws.specs.problem_rules.Validity.{IsValid}
+use Rattle.tree_laws.specs.pns_rules.Shape.{shape_of}
+use Rattle.tree_laws.specs.pns_rules.Structure.{IsBetween}
+use Rattle.tree_laws.specs.pns_rules.Nodes.{Node}
+use Rattle.tree_laws.specs.pns_rules.Ends.{IsDead, IsNever}
+use Rattle.tree_laws.specs.flow_rules.Net.{net_of}
+use Rattle.tree_laws.specs.flow_rules.Flows.{IsFlows, cost}
+use Rattle.tree_laws.specs.flow_rules.Relaxed.{relaxed_cost}
+use Rattle.tree_laws.proofs.flow_rules.Cited.{flows_are_relaxed, relaxed_costs_less}
+use Rattle.tree_laws.specs.tree_rules.Ways.{Way}
+use Rattle.tree_laws.specs.tree_rules.Tree.{End, branch, leaf, Stands}
+use Rattle.tree_laws.specs.tree_rules.Leaf.{Leaf, untried, Scaled, IsUntried, LeafPasses}
+use Rattle.tree_laws.specs.tree_rules.Claim.{Claim, unknown, CostOver, claimed_cost, ClaimPasses}
+use Rattle.tree_laws.specs.tree_rules.Lean.{MayUndercut, IsNoDearer, IsLean}
+use Rattle.tree_laws.specs.tree_rules.Stops.{IsOpenAt, IsPending, IsNextCount, IsSpent}
+use Rattle.tree_laws.specs.tree_rules.Accepted.{IsAccepted}
+use Rattle.tree_laws.proofs.Cited.{partial_is_accepted}
 use Rattle.search_tree.specs.Cells.{Cell, place_of, cell_at}
 use Rattle.search_tree.specs.Growth.{EndsOpen}
 use Rattle.search_tree.specs.Preorder.{IsPreorder, node_at, tree_of}

@@ -1,4 +1,5 @@
 pub mod BelowLemmas
+pub mod Cited
 pub mod CountLemmas
 pub mod FractionLemmas
 pub mod GrowLemmas
@@ -19,3 +20,4 @@ pub mod StepLemmas
 pub mod TreeLemmas
 pub mod ValueLemmas
 pub mod WalkLemmas
+pub use Rattle.tree_laws.proofs as tree_laws

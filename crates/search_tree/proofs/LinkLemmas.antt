@@ -4,9 +4,9 @@ use Rattle.std.proofs.Common.{List, [], length, refl, sym, ap, ◌∙◌, subst,
 use Rattle.std.proofs.Common.{eq-eqb, ne_eqb}
 use Rattle.std.specs.List.{range_with_len}
 use Rattle.std.proofs.lemmas.Bool.{cases_eq, cases_lt}
-use Rattle.tree_rules.specs.Ways.{Way, width}
-use Rattle.tree_rules.specs.Tree.{End, branch, leaf}
-use Rattle.tree_rules.specs.Leaf.{Leaf, untried}
+use Rattle.tree_laws.specs.tree_rules.Ways.{Way, width}
+use Rattle.tree_laws.specs.tree_rules.Tree.{End, branch, leaf}
+use Rattle.tree_laws.specs.tree_rules.Leaf.{Leaf, untried}
 use Rattle.search_tree.specs.Cells.{Cell, cell_at, times, numbers_below, children_at, AreBehind}
 use Rattle.search_tree.specs.Cells.{IsParentOf, IsLinked}
 use Rattle.search_tree.specs.Growth.{EndsOpen}

@@ -6,21 +6,22 @@ use Rattle.std.specs.Prelude.{not, ◌||◌, ◌&&◌}
 use Rattle.std.proofs.lemmas.Int.{ints}
 use Rattle.std.proofs.lemmas.Bool.{or_left, or_right, or_cases, both_ways, false_from_ne_true}
 use Rattle.std.proofs.lemmas.Bool.{true_from_ne_false}
-use Rattle.integer_laws.specs.Total.{total}
-use Rattle.integer_laws.proofs.Ring.{ring_z}
-use Rattle.integer_laws.proofs.Order.{mul_nonneg, mul-le_left, mul-le_right}
-use Rattle.integer_laws.proofs.Totals.{total-mul, total-zero, total-add, total-le}
-use Rattle.pns_rules.specs.Structure.{mats, is_used, is_made}
-use Rattle.pns_rules.specs.Nodes.{Node}
-use Rattle.pns_rules.specs.Ends.{IsDead, IsNever}
-use Rattle.pns_rules.proofs.StructureLemmas.{is_made-from}
-use Rattle.flow_rules.specs.Net.{Net, million, trillion, size_cost, units_of}
-use Rattle.flow_rules.specs.Flows.{balance}
-use Rattle.flow_rules.specs.Relaxed.{stays, units, slope, unit_cost, fixed_cost, row_low, row_high}
-use Rattle.flow_rules.specs.Relaxed.{row_balance, IsRelaxed, relaxed_cost}
-use Rattle.flow_rules.proofs.ListedLemmas.{All-listed, total-sets, within_larger}
-use Rattle.flow_rules.proofs.NetLemmas.{IsNet}
-use Rattle.flow_rules.proofs.RelaxedLemmas.{slope_positive, slope_below, rate_of_other, mats_within}
+use Rattle.tree_laws.specs.integer_laws.Total.{total}
+use Rattle.tree_laws.proofs.integer_laws.Cited.{ring_z, mul_nonneg, mul-le_left, mul-le_right}
+use Rattle.tree_laws.proofs.integer_laws.Cited.{total-mul}
+use Rattle.tree_laws.proofs.integer_laws.Cited.{total-zero, total-add, total-le}
+use Rattle.tree_laws.specs.pns_rules.Structure.{mats, is_used, is_made}
+use Rattle.tree_laws.specs.pns_rules.Nodes.{Node}
+use Rattle.tree_laws.specs.pns_rules.Ends.{IsDead, IsNever}
+use Rattle.tree_laws.proofs.pns_rules.Cited.{is_made-from}
+use Rattle.tree_laws.specs.flow_rules.Net.{Net, million, trillion, size_cost, units_of}
+use Rattle.tree_laws.specs.flow_rules.Flows.{balance}
+use Rattle.tree_laws.specs.flow_rules.Relaxed.{stays, units, slope, unit_cost, fixed_cost, row_low}
+use Rattle.tree_laws.specs.flow_rules.Relaxed.{row_high}
+use Rattle.tree_laws.specs.flow_rules.Relaxed.{row_balance, IsRelaxed, relaxed_cost}
+use Rattle.tree_laws.proofs.flow_rules.Cited.{All-listed, total-sets, within_larger, IsNet}
+use Rattle.tree_laws.proofs.flow_rules.Cited.{slope_positive}
+use Rattle.tree_laws.proofs.flow_rules.Cited.{slope_below, rate_of_other, mats_within}
 use Rattle.search_tree.specs.Below.{IsBelow}
 
 -- ---- the size of a unit: b, it is taken in; b', below; o', it is left out below

@@ -8,19 +8,20 @@ use Rattle.std.proofs.lemmas.Bool.{cases_Bool}
 use Rattle.std.proofs.lemmas.List.Sums.{sum_by-cons}
 use Rattle.std.proofs.lemmas.Nat.{pow-add, mul-le}
 use Rattle.std.proofs.Math.Nat.{pow-le-pow_right}
-use Rattle.number_sets.specs.Sets.{has, union}
-use Rattle.number_sets.specs.Options.{without_and_with, subsets, with_base, non_empty, all_options}
-use Rattle.number_sets.proofs.SetLemmas.{has-listed, has-union}
-use Rattle.pns_rules.specs.Shape.{Shape}
-use Rattle.pns_rules.specs.Structure.{makers}
-use Rattle.pns_rules.specs.Nodes.{Node, Step, sole, is_free, base_makers, free_makers, options}
-use Rattle.pns_rules.specs.Nodes.{child}
-use Rattle.pns_rules.specs.Ends.{IsReduced, IsUndecided}
-use Rattle.tree_rules.specs.Tree.{after_all}
+use Rattle.tree_laws.specs.number_sets.Sets.{has, union}
+use Rattle.tree_laws.specs.number_sets.Options.{without_and_with, subsets, with_base, non_empty}
+use Rattle.tree_laws.specs.number_sets.Options.{all_options}
+use Rattle.tree_laws.proofs.number_sets.Cited.{has-listed, has-union}
+use Rattle.tree_laws.specs.pns_rules.Shape.{Shape}
+use Rattle.tree_laws.specs.pns_rules.Structure.{makers}
+use Rattle.tree_laws.specs.pns_rules.Nodes.{Node, Step, sole, is_free, base_makers, free_makers}
+use Rattle.tree_laws.specs.pns_rules.Nodes.{options}
+use Rattle.tree_laws.specs.pns_rules.Nodes.{child}
+use Rattle.tree_laws.specs.pns_rules.Ends.{IsReduced, IsUndecided}
+use Rattle.tree_laws.specs.tree_rules.Tree.{after_all}
 use Rattle.tree_laws.specs.Laws.{free_units}
-use Rattle.tree_laws.proofs.CountLemmas.{length-listed, length-subsets, double, options_at_most}
-use Rattle.tree_laws.proofs.CountLemmas.{free_count, child_count}
-use Rattle.tree_laws.proofs.FewLemmas.{steps_count}
+use Rattle.tree_laws.proofs.Cited.{length-listed, length-subsets, double, options_at_most}
+use Rattle.tree_laws.proofs.Cited.{free_count, child_count, steps_count}
 
 -- ---- options
 

@@ -1,14 +1,14 @@
 -- Nodes compared by what their relaxed flows cost.
 use Rattle.std.proofs.Common.{ℤ, pos, ◌*ℤ◌, ◌≤ℤ◌, arith, Option, Some, None}
 use Rattle.std.proofs.lemmas.Int.{ints}
-use Rattle.problem_rules.specs.Problem.{Problem}
-use Rattle.pns_rules.specs.Nodes.{Node}
-use Rattle.flow_rules.specs.Net.{net_of}
-use Rattle.flow_rules.specs.Relaxed.{relaxed_cost}
-use Rattle.tree_rules.specs.Claim.{CostOver, IsAtMost}
-use Rattle.tree_rules.specs.Lean.{MayUndercut, HasCheaper, IsNoDearer}
+use Rattle.tree_laws.specs.problem_rules.Problem.{Problem}
+use Rattle.tree_laws.specs.pns_rules.Nodes.{Node}
+use Rattle.tree_laws.specs.flow_rules.Net.{net_of}
+use Rattle.tree_laws.specs.flow_rules.Relaxed.{relaxed_cost}
+use Rattle.tree_laws.specs.tree_rules.Claim.{CostOver, IsAtMost}
+use Rattle.tree_laws.specs.tree_rules.Lean.{MayUndercut, HasCheaper, IsNoDearer}
 use Rattle.search_tree.specs.Values.{IsPositive, IsUnder, IsPositiveCost}
-use Rattle.tree_rules.specs.Costs.{IsNoMore}
+use Rattle.tree_laws.specs.tree_rules.Costs.{IsNoMore}
 use Rattle.search_tree.proofs.FractionLemmas.{fraction_trans}
 
 -- ---- costs

@@ -2,12 +2,13 @@
 use Rattle.std.proofs.Common.{◌≡◌, ℕ, zero, suc, ◌+◌, ◌<◌, ◌≤◌, List, [], ◌∷◌, ◌++◌, length, map}
 use Rattle.std.proofs.Common.{refl, sym, ap, ap₂, ◌∙◌, subst, arith, Some, length-append}
 use Rattle.std.specs.List.{range_with_len, slice_get}
-use Rattle.pns_rules.specs.Shape.{Shape}
-use Rattle.pns_rules.specs.Nodes.{Node}
-use Rattle.tree_rules.specs.Ways.{Way, width, child_at}
-use Rattle.tree_rules.specs.Tree.{End, branch, leaf, TreeNode, children, skip, roots, StepsPass}
-use Rattle.tree_rules.specs.Tree.{after_all, below, Stands, EndPasses, Pass}
-use Rattle.tree_rules.specs.Leaf.{Leaf}
+use Rattle.tree_laws.specs.pns_rules.Shape.{Shape}
+use Rattle.tree_laws.specs.pns_rules.Nodes.{Node}
+use Rattle.tree_laws.specs.tree_rules.Ways.{Way, width, child_at}
+use Rattle.tree_laws.specs.tree_rules.Tree.{End, branch, leaf, TreeNode, children, skip, roots}
+use Rattle.tree_laws.specs.tree_rules.Tree.{StepsPass}
+use Rattle.tree_laws.specs.tree_rules.Tree.{after_all, below, Stands, EndPasses, Pass}
+use Rattle.tree_laws.specs.tree_rules.Leaf.{Leaf}
 use Rattle.search_tree.specs.Cells.{Cell, place_of, cell_at, numbers_below, children_at, AreBehind}
 use Rattle.search_tree.specs.Cells.{IsLinked}
 use Rattle.search_tree.specs.Preorder.{IsPreorder, tree_of, told_end, told_tree}

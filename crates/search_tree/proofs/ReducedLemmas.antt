@@ -5,16 +5,16 @@ use Rattle.std.proofs.Common.{◌≡◌, ℕ, ◌<◌, ◌≤◌, nat_lt, Bool, 
 use Rattle.std.proofs.Common.{length, refl, sym, ap, ◌∙◌, inl, inr, lt-ltb, ltb-true}
 use Rattle.std.proofs.lemmas.Bool.{or_cases, or_left, or_right, and_from, and_parts, both_ways}
 use Rattle.std.proofs.lemmas.Bool.{false_from_ne_true, true_from_ne_false, not-true, cases_Bool}
-use Rattle.number_sets.specs.Sets.{has, listed, IsWithin}
-use Rattle.number_sets.proofs.SetLemmas.{has-listed, IsRising-listed, length-within}
-use Rattle.pns_rules.specs.Shape.{Shape, IsProper}
-use Rattle.pns_rules.specs.Structure.{is_made, is_used, is_needed, mats, HasPath, IsStructure}
-use Rattle.pns_rules.specs.Structure.{IsUnion}
-use Rattle.pns_rules.specs.Nodes.{Node, raw, starve, loose, is_free}
-use Rattle.pns_rules.specs.Ends.{IsSound, remaining, IsReduced}
-use Rattle.pns_rules.proofs.StructureLemmas.{is_made-from, is_made-some, is_used-from, is_used-some}
-use Rattle.pns_rules.proofs.StructureLemmas.{HasPath-within}
-use Rattle.pns_rules.proofs.PathLemmas.{found_in, found_leads, path_found}
+use Rattle.tree_laws.specs.number_sets.Sets.{has, listed, IsWithin}
+use Rattle.tree_laws.proofs.number_sets.Cited.{has-listed, IsRising-listed, length-within}
+use Rattle.tree_laws.specs.pns_rules.Shape.{Shape, IsProper}
+use Rattle.tree_laws.specs.pns_rules.Structure.{is_made, is_used, is_needed, mats, HasPath}
+use Rattle.tree_laws.specs.pns_rules.Structure.{IsStructure}
+use Rattle.tree_laws.specs.pns_rules.Structure.{IsUnion}
+use Rattle.tree_laws.specs.pns_rules.Nodes.{Node, raw, starve, loose, is_free}
+use Rattle.tree_laws.specs.pns_rules.Ends.{IsSound, remaining, IsReduced}
+use Rattle.tree_laws.proofs.pns_rules.Cited.{is_made-from, is_made-some, is_used-from, is_used-some}
+use Rattle.tree_laws.proofs.pns_rules.Cited.{HasPath-within, found_in, found_leads, path_found}
 
 module _ (g : Shape) (n : Node) where
   remains_from : (u : ℕ) → u < g.units → n.outside u ≡ false → remaining g n u ≡ true

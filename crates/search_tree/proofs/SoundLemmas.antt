@@ -4,16 +4,17 @@ use Rattle.std.proofs.Common.{◌≡◌, ℕ, Bool, true, not, ◌&&◌, ◌||�
 use Rattle.std.proofs.Common.{inr}
 use Rattle.std.proofs.lemmas.Bool.{or_cases, or_left, or_right, and_from, and_parts, both_ways}
 use Rattle.std.proofs.lemmas.Bool.{cases_Bool}
-use Rattle.number_sets.specs.Sets.{has, IsWithin}
-use Rattle.number_sets.specs.Options.{IsIn}
-use Rattle.pns_rules.specs.Shape.{Shape}
-use Rattle.pns_rules.specs.Structure.{is_used, is_needed, HasPath}
-use Rattle.pns_rules.specs.Nodes.{Node, raw, IsOption, child}
-use Rattle.pns_rules.specs.Ends.{IsSound, IsReduced}
-use Rattle.pns_rules.proofs.StructureLemmas.{is_used-some, HasPath-within}
-use Rattle.tree_rules.specs.Ways.{Way, at_material, either, MayBranch, options_at, child_at}
-use Rattle.tree_rules.specs.Ways.{IsDecision}
-use Rattle.tree_laws.proofs.WayLemmas.{IsChoice, choices, only}
+use Rattle.tree_laws.specs.number_sets.Sets.{has, IsWithin}
+use Rattle.tree_laws.specs.number_sets.Options.{IsIn}
+use Rattle.tree_laws.specs.pns_rules.Shape.{Shape}
+use Rattle.tree_laws.specs.pns_rules.Structure.{is_used, is_needed, HasPath}
+use Rattle.tree_laws.specs.pns_rules.Nodes.{Node, raw, IsOption, child}
+use Rattle.tree_laws.specs.pns_rules.Ends.{IsSound, IsReduced}
+use Rattle.tree_laws.proofs.pns_rules.Cited.{is_used-some, HasPath-within}
+use Rattle.tree_laws.specs.tree_rules.Ways.{Way, at_material, either, MayBranch, options_at}
+use Rattle.tree_laws.specs.tree_rules.Ways.{child_at}
+use Rattle.tree_laws.specs.tree_rules.Ways.{IsDecision}
+use Rattle.tree_laws.proofs.Cited.{IsChoice, choices, only}
 use Rattle.search_tree.specs.SearchLaws.{ChildrenAreSound}
 use Rattle.search_tree.proofs.BelowLemmas.{choice_of, choice_is_below}
 

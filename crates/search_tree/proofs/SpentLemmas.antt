@@ -3,22 +3,23 @@ use Rattle.std.proofs.Common.{◌≡◌, ℕ, zero, suc, ◌+◌, ◌*◌, ◌^�
 use Rattle.std.proofs.Common.{◌∷◌, ◌++◌, length, Option, refl, sym, subst, arith, length-append}
 use Rattle.std.proofs.lemmas.List.{length-map}
 use Rattle.std.proofs.Math.Nat.{one-le-pow, pow-le-pow_right}
-use Rattle.number_sets.specs.Sets.{listed}
-use Rattle.problem_rules.specs.Problem.{Problem}
-use Rattle.pns_rules.specs.Shape.{Shape, IsProper, shape_of}
-use Rattle.pns_rules.specs.Structure.{IsUnion}
-use Rattle.pns_rules.specs.Nodes.{Node, is_free, options}
-use Rattle.pns_rules.specs.Ends.{IsSound, IsReduced, IsUndecided}
-use Rattle.tree_rules.specs.Ways.{Way, at_material, MayBranch, options_at, child_at, children_at}
-use Rattle.tree_rules.specs.Ways.{IsDecision}
-use Rattle.tree_rules.specs.Tree.{End, branch, leaf, TreeNode, after_all, below, Stands, Pass}
-use Rattle.tree_rules.specs.Claim.{Claim, claimed_cost}
-use Rattle.tree_rules.specs.Leaf.{Leaf, untried, Scaled, IsUntried, LeafPasses}
-use Rattle.tree_rules.specs.Lean.{IsLean}
-use Rattle.tree_rules.specs.Accepted.{Tree, Proves}
-use Rattle.tree_laws.proofs.CountLemmas.{length-listed, double, free_count}
-use Rattle.tree_laws.proofs.FewLemmas.{weight, weight_of, weight-append, steps_count, below_weight}
-use Rattle.tree_laws.proofs.FewLemmas.{Splits, may_end, few}
+use Rattle.tree_laws.specs.number_sets.Sets.{listed}
+use Rattle.tree_laws.specs.problem_rules.Problem.{Problem}
+use Rattle.tree_laws.specs.pns_rules.Shape.{Shape, IsProper, shape_of}
+use Rattle.tree_laws.specs.pns_rules.Structure.{IsUnion}
+use Rattle.tree_laws.specs.pns_rules.Nodes.{Node, is_free, options}
+use Rattle.tree_laws.specs.pns_rules.Ends.{IsSound, IsReduced, IsUndecided}
+use Rattle.tree_laws.specs.tree_rules.Ways.{Way, at_material, MayBranch, options_at, child_at}
+use Rattle.tree_laws.specs.tree_rules.Ways.{children_at}
+use Rattle.tree_laws.specs.tree_rules.Ways.{IsDecision}
+use Rattle.tree_laws.specs.tree_rules.Tree.{End, branch, leaf, TreeNode, after_all, below, Stands}
+use Rattle.tree_laws.specs.tree_rules.Tree.{Pass}
+use Rattle.tree_laws.specs.tree_rules.Claim.{Claim, claimed_cost}
+use Rattle.tree_laws.specs.tree_rules.Leaf.{Leaf, untried, Scaled, IsUntried, LeafPasses}
+use Rattle.tree_laws.specs.tree_rules.Lean.{IsLean}
+use Rattle.tree_laws.specs.tree_rules.Accepted.{Tree, Proves}
+use Rattle.tree_laws.proofs.Cited.{length-listed, double, free_count, weight, weight_of}
+use Rattle.tree_laws.proofs.Cited.{weight-append, steps_count, below_weight, Splits, may_end, few}
 use Rattle.search_tree.proofs.NumberLemmas.{decisions_split}
 use Rattle.search_tree.proofs.ReducedLemmas.{free_units_are_few}
 

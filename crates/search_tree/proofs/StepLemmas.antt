@@ -3,8 +3,8 @@ use Rattle.std.proofs.Common.{◌≡◌, ℕ, ◌+◌, ◌<◌, List, length, sl
 use Rattle.std.proofs.Common.{length-append}
 use Rattle.std.proofs.lemmas.List.{get_or_append_left, get_or-append-add, get_or-set_same}
 use Rattle.std.proofs.lemmas.List.{get_or-set_other, length-set}
-use Rattle.tree_rules.specs.Ways.{Way, width}
-use Rattle.tree_rules.specs.Tree.{branch}
+use Rattle.tree_laws.specs.tree_rules.Ways.{Way, width}
+use Rattle.tree_laws.specs.tree_rules.Tree.{branch}
 use Rattle.search_tree.specs.Cells.{Cell, no_cell, cell_at}
 use Rattle.search_tree.specs.Growth.{as_parent}
 use Rattle.search_tree.specs.Turns.{IsBranched}

@@ -4,9 +4,10 @@ use Rattle.std.proofs.Common.{◌≡◌, ℕ, zero, suc, ◌+◌, ◌<◌, ◌�
 use Rattle.std.proofs.Common.{sym, ap, ◌∙◌, subst, arith, length-append}
 use Rattle.std.specs.List.{range_with_len, AllByRecursion}
 use Rattle.std.proofs.lemmas.List.FromFn.{length-range_with_len}
-use Rattle.tree_rules.specs.Ways.{width}
-use Rattle.tree_rules.specs.Tree.{End, branch, leaf, children, HasChildren, IsForest, IsTree}
-use Rattle.tree_rules.specs.Leaf.{Leaf}
+use Rattle.tree_laws.specs.tree_rules.Ways.{width}
+use Rattle.tree_laws.specs.tree_rules.Tree.{End, branch, leaf, children, HasChildren, IsForest}
+use Rattle.tree_laws.specs.tree_rules.Tree.{IsTree}
+use Rattle.tree_laws.specs.tree_rules.Leaf.{Leaf}
 use Rattle.search_tree.specs.Cells.{Cell, cell_at, numbers_below, children_at, AreBehind, IsLinked}
 use Rattle.search_tree.specs.Preorder.{IsPreorder, tree_of}
 

@@ -1,21 +1,21 @@
 -- The laws on values, over valid problems.
 use Rattle.std.proofs.Common.{ℕ, List, arith}
 use Rattle.std.proofs.lemmas.Int.{ints}
-use Rattle.integer_laws.proofs.Order.{mul-le_right}
-use Rattle.number_sets.specs.Sets.{Avoids}
-use Rattle.problem_rules.specs.Problem.{Problem}
-use Rattle.problem_rules.specs.Validity.{IsValid}
-use Rattle.pns_rules.specs.Shape.{Shape, shape_of}
-use Rattle.pns_rules.specs.Nodes.{Node, Step, child, IsOption}
-use Rattle.pns_rules.specs.Ends.{IsDead, IsNever}
-use Rattle.pns_rules.proofs.ProperLemmas.{proper_if_valid}
-use Rattle.flow_rules.specs.Net.{net_of}
-use Rattle.flow_rules.specs.Relaxed.{relaxed_cost}
-use Rattle.flow_rules.proofs.NetLemmas.{net_of_valid}
-use Rattle.tree_rules.specs.Ways.{Way, at_material, child_at}
-use Rattle.tree_rules.specs.Tree.{StepsPass, after_all}
-use Rattle.tree_rules.specs.Lean.{IsNoDearer}
-use Rattle.tree_laws.proofs.WayLemmas.{IsChoice, choices}
+use Rattle.tree_laws.proofs.integer_laws.Cited.{mul-le_right}
+use Rattle.tree_laws.specs.number_sets.Sets.{Avoids}
+use Rattle.tree_laws.specs.problem_rules.Problem.{Problem}
+use Rattle.tree_laws.specs.problem_rules.Validity.{IsValid}
+use Rattle.tree_laws.specs.pns_rules.Shape.{Shape, shape_of}
+use Rattle.tree_laws.specs.pns_rules.Nodes.{Node, Step, child, IsOption}
+use Rattle.tree_laws.specs.pns_rules.Ends.{IsDead, IsNever}
+use Rattle.tree_laws.proofs.pns_rules.Cited.{proper_if_valid}
+use Rattle.tree_laws.specs.flow_rules.Net.{net_of}
+use Rattle.tree_laws.specs.flow_rules.Relaxed.{relaxed_cost}
+use Rattle.tree_laws.proofs.flow_rules.Cited.{net_of_valid}
+use Rattle.tree_laws.specs.tree_rules.Ways.{Way, at_material, child_at}
+use Rattle.tree_laws.specs.tree_rules.Tree.{StepsPass, after_all}
+use Rattle.tree_laws.specs.tree_rules.Lean.{IsNoDearer}
+use Rattle.tree_laws.proofs.Cited.{IsChoice, choices}
 use Rattle.search_tree.specs.SearchLaws.{BelowIsNoDearer, ChildrenAreDearer}
 use Rattle.search_tree.proofs.BelowLemmas.{choice_of, choice_is_below, steps_lead_below}
 use Rattle.search_tree.proofs.MonotoneLemmas.{sizes_above, relaxed_above, cost_above}

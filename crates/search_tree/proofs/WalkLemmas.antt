@@ -7,11 +7,11 @@ use Rattle.std.specs.List.{range_with_len, slice_get}
 use Rattle.std.proofs.lemmas.List.{length-map}
 use Rattle.std.proofs.lemmas.Nat.{pow_pos}
 use Rattle.std.proofs.Math.Pow.{pow_mono}
-use Rattle.tree_rules.specs.Ways.{width}
-use Rattle.tree_rules.specs.Tree.{End, branch, leaf, HasChildren}
-use Rattle.tree_rules.specs.Leaf.{Leaf}
-use Rattle.tree_rules.specs.Accepted.{Tree}
-use Rattle.tree_laws.proofs.CountLemmas.{double}
+use Rattle.tree_laws.specs.tree_rules.Ways.{width}
+use Rattle.tree_laws.specs.tree_rules.Tree.{End, branch, leaf, HasChildren}
+use Rattle.tree_laws.specs.tree_rules.Leaf.{Leaf}
+use Rattle.tree_laws.specs.tree_rules.Accepted.{Tree}
+use Rattle.tree_laws.proofs.Cited.{double}
 use Rattle.search_tree.specs.Cells.{Cell, cell_at, times, numbers_below, children_at, AreBehind}
 use Rattle.search_tree.specs.Cells.{IsLinked}
 use Rattle.search_tree.specs.Preorder.{IsPreorder, node_at, tree_of, IsTreeIn}

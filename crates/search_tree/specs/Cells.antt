@@ -3,12 +3,12 @@
 use Rattle.std.specs.Prelude.{◌≡◌, ℕ, ◌+◌, ◌<◌, ◌≤◌, ◌==◌, cond, List, [], ◌∷◌, length, get_or}
 use Rattle.std.specs.Prelude.{None}
 use Rattle.std.specs.List.{range_with_len}
-use Rattle.pns_rules.specs.Nodes as rules
-use Rattle.pgraph.specs.View.{node_of}
-use Rattle.unit_sets.specs.declared.node.Node.{Node}
-use Rattle.tree_rules.specs.Ways.{width}
-use Rattle.tree_rules.specs.Tree.{End, branch, leaf}
-use Rattle.tree_rules.specs.Leaf.{Leaf, untried}
+use Rattle.tree_laws.specs.pns_rules.Nodes as rules
+use Rattle.branch_tree.specs.pgraph.View.{node_of}
+use Rattle.branch_tree.specs.unit_sets.declared.node.Node.{Node}
+use Rattle.tree_laws.specs.tree_rules.Ways.{width}
+use Rattle.tree_laws.specs.tree_rules.Tree.{End, branch, leaf}
+use Rattle.tree_laws.specs.tree_rules.Leaf.{Leaf, untried}
 
 -- A node of the tree: its option, its steps, the node that these leave, the number of its first
 -- child if it is branched, its end, and the key under which a search stores its data if the node is

@@ -2,11 +2,11 @@
 -- its node, a branched one has a child for each option, and P says which leaves may be there.
 use Rattle.std.specs.Prelude.{◌≡◌, ℕ, ◌+◌, ◌<◌, List, [], length, map}
 use Rattle.std.specs.List.{range_with_len}
-use Rattle.pns_rules.specs.Shape.{Shape}
-use Rattle.pns_rules.specs.Nodes.{Node}
-use Rattle.tree_rules.specs.Ways.{Way, width, MayBranch, options_at, child_at}
-use Rattle.tree_rules.specs.Tree.{End, branch, leaf, StepsPass, after_all}
-use Rattle.tree_rules.specs.Leaf.{Leaf}
+use Rattle.tree_laws.specs.pns_rules.Shape.{Shape}
+use Rattle.tree_laws.specs.pns_rules.Nodes.{Node}
+use Rattle.tree_laws.specs.tree_rules.Ways.{Way, width, MayBranch, options_at, child_at}
+use Rattle.tree_laws.specs.tree_rules.Tree.{End, branch, leaf, StepsPass, after_all}
+use Rattle.tree_laws.specs.tree_rules.Leaf.{Leaf}
 use Rattle.search_tree.specs.Cells.{Cell, place_of, cell_at}
 
 -- the cell's steps are possible from the node, each in turn, and leave the cell's node

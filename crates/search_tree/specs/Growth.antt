@@ -1,11 +1,12 @@
 -- How a leaf of a growing tree becomes a branch.
 use Rattle.std.specs.Prelude.{◌≡◌, ℕ, ◌<◌, ◌≤◌, Bool, true, false, List, [], ◌∷◌, ◌++◌, length}
 use Rattle.std.specs.Prelude.{Option}
-use Rattle.link_lists.specs.Lists.{has}
+use Rattle.node_pool.specs.link_lists.Lists.{has}
 use Rattle.node_pool.specs.Pooled.{Pooled}
-use Rattle.exact_numbers.specs.declared.number.Mixed.{Mixed}
-use Rattle.tree_rules.specs.Tree.{End, branch, leaf}
-use Rattle.tree_rules.specs.Leaf.{Leaf, dead, clash, refuted, bounded, charged, untried, Scaled}
+use Rattle.node_pool.specs.exact_numbers.declared.number.Mixed.{Mixed}
+use Rattle.tree_laws.specs.tree_rules.Tree.{End, branch, leaf}
+use Rattle.tree_laws.specs.tree_rules.Leaf.{Leaf, dead, clash, refuted, bounded, charged, untried}
+use Rattle.tree_laws.specs.tree_rules.Leaf.{Scaled}
 use Rattle.search_tree.specs.declared.growth.Fresh.{Fresh}
 use Rattle.search_tree.specs.Cells.{Cell, cell_at}
 

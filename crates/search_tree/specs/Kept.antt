@@ -2,15 +2,15 @@
 -- was branched last. Each branch costs no more than it, and it costs no more than any open leaf.
 -- Both are said of each node by itself.
 use Rattle.std.specs.Prelude.{ℕ, ◌<◌, true, List, length, Option, Some, None}
-use Rattle.problem_rules.specs.Problem.{Problem}
-use Rattle.pns_rules.specs.Shape.{shape_of}
-use Rattle.pns_rules.specs.Nodes.{Node}
-use Rattle.pns_rules.specs.Ends.{IsSound, IsDead, IsNever, IsReduced}
-use Rattle.tree_rules.specs.Ways.{Way, IsDecision}
-use Rattle.tree_rules.specs.Tree.{End, branch, leaf}
-use Rattle.tree_rules.specs.Leaf.{Leaf, dead, clash, refuted, bounded, charged, untried}
-use Rattle.tree_rules.specs.Claim.{Claim, CostOver, claimed_cost}
-use Rattle.tree_rules.specs.Lean.{MayUndercut, IsNoDearer}
+use Rattle.tree_laws.specs.problem_rules.Problem.{Problem}
+use Rattle.tree_laws.specs.pns_rules.Shape.{shape_of}
+use Rattle.tree_laws.specs.pns_rules.Nodes.{Node}
+use Rattle.tree_laws.specs.pns_rules.Ends.{IsSound, IsDead, IsNever, IsReduced}
+use Rattle.tree_laws.specs.tree_rules.Ways.{Way, IsDecision}
+use Rattle.tree_laws.specs.tree_rules.Tree.{End, branch, leaf}
+use Rattle.tree_laws.specs.tree_rules.Leaf.{Leaf, dead, clash, refuted, bounded, charged, untried}
+use Rattle.tree_laws.specs.tree_rules.Claim.{Claim, CostOver, claimed_cost}
+use Rattle.tree_laws.specs.tree_rules.Lean.{MayUndercut, IsNoDearer}
 use Rattle.search_tree.specs.Cells.{Cell, place_of, cell_at}
 use Rattle.search_tree.specs.Laws.{IsGrown}
 use Rattle.search_tree.specs.Values.{IsPositiveCost}

@@ -1,13 +1,13 @@
 -- Laws of growing trees, each of which a public function of this crate has as its contract.
 use Rattle.std.specs.Prelude.{◌≡◌, ℕ, ◌<◌, Bool, List, [], ◌∷◌, length, Some}
 use Rattle.std.specs.List.{slice_get}
-use Rattle.problem_rules.specs.Problem.{Problem}
-use Rattle.pns_rules.specs.Shape.{shape_of}
-use Rattle.pns_rules.specs.Nodes.{Node}
-use Rattle.tree_rules.specs.Tree.{End, IsTree, Stands}
-use Rattle.tree_rules.specs.Leaf.{Leaf, LeafPasses}
-use Rattle.tree_rules.specs.Claim.{Claim, claimed_cost, ClaimPasses}
-use Rattle.tree_rules.specs.Accepted.{Proves}
+use Rattle.tree_laws.specs.problem_rules.Problem.{Problem}
+use Rattle.tree_laws.specs.pns_rules.Shape.{shape_of}
+use Rattle.tree_laws.specs.pns_rules.Nodes.{Node}
+use Rattle.tree_laws.specs.tree_rules.Tree.{End, IsTree, Stands}
+use Rattle.tree_laws.specs.tree_rules.Leaf.{Leaf, LeafPasses}
+use Rattle.tree_laws.specs.tree_rules.Claim.{Claim, claimed_cost, ClaimPasses}
+use Rattle.tree_laws.specs.tree_rules.Accepted.{Proves}
 use Rattle.search_tree.specs.Cells.{Cell, place_of, cell_at, IsLinked}
 use Rattle.search_tree.specs.Preorder.{IsPreorder, tree_of}
 use Rattle.search_tree.specs.Fits.{Fits}

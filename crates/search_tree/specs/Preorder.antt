@@ -1,9 +1,9 @@
 -- The cells of a growing tree in preorder, and the branch tree that they make.
 use Rattle.std.specs.Prelude.{◌≡◌, ℕ, List, [], ◌∷◌, ◌++◌, map, Some}
 use Rattle.std.specs.List.{slice_get}
-use Rattle.tree_rules.specs.Tree.{End, branch, leaf, TreeNode}
-use Rattle.tree_rules.specs.Leaf.{Leaf}
-use Rattle.tree_rules.specs.Accepted.{Tree}
+use Rattle.tree_laws.specs.tree_rules.Tree.{End, branch, leaf, TreeNode}
+use Rattle.tree_laws.specs.tree_rules.Leaf.{Leaf}
+use Rattle.tree_laws.specs.tree_rules.Accepted.{Tree}
 use Rattle.search_tree.specs.Cells.{Cell, cell_at, children_at}
 
 -- the numbers `order` are those of the subtrees of the cells `is`, one subtree after the other,

@@ -5,23 +5,23 @@ use Rattle.std.specs.Prelude.{[]}
 use Rattle.std.specs.Prelude.{◌∷◌}
 use Rattle.std.specs.Prelude.{length, Option}
 use Rattle.std.specs.List.{sum_by}
-use Rattle.number_sets.specs.Sets.{listed, IsWithin, Avoids}
-use Rattle.number_sets.specs.Options.{IsIn}
-use Rattle.problem_rules.specs.Problem.{Problem}
-use Rattle.problem_rules.specs.Validity.{IsValid}
-use Rattle.pns_rules.specs.Shape.{Shape, IsProper, shape_of}
-use Rattle.pns_rules.specs.Structure.{is_needed, IsStructure, IsUnion}
-use Rattle.pns_rules.specs.Nodes.{Node, Step, is_free, base_makers, free_makers, options}
-use Rattle.pns_rules.specs.Nodes.{child}
-use Rattle.pns_rules.specs.Ends.{IsSound, IsDead, IsUndecided, IsNever, IsReduced}
-use Rattle.pns_rules.specs.Ends.{remaining}
-use Rattle.tree_rules.specs.Ways.{Way, either, MayBranch, options_at, child_at}
-use Rattle.tree_rules.specs.Ways.{IsDecision}
-use Rattle.tree_rules.specs.Tree.{End, leaf, StepsPass, after_all, Stands}
-use Rattle.tree_rules.specs.Claim.{Claim, claimed_cost}
-use Rattle.tree_rules.specs.Leaf.{Leaf, untried, Scaled, IsUntried}
-use Rattle.tree_rules.specs.Lean.{IsNoDearer, IsLean}
-use Rattle.tree_rules.specs.Accepted.{Tree, Proves}
+use Rattle.tree_laws.specs.number_sets.Sets.{listed, IsWithin, Avoids}
+use Rattle.tree_laws.specs.number_sets.Options.{IsIn}
+use Rattle.tree_laws.specs.problem_rules.Problem.{Problem}
+use Rattle.tree_laws.specs.problem_rules.Validity.{IsValid}
+use Rattle.tree_laws.specs.pns_rules.Shape.{Shape, IsProper, shape_of}
+use Rattle.tree_laws.specs.pns_rules.Structure.{is_needed, IsStructure, IsUnion}
+use Rattle.tree_laws.specs.pns_rules.Nodes.{Node, Step, is_free, base_makers, free_makers, options}
+use Rattle.tree_laws.specs.pns_rules.Nodes.{child}
+use Rattle.tree_laws.specs.pns_rules.Ends.{IsSound, IsDead, IsUndecided, IsNever, IsReduced}
+use Rattle.tree_laws.specs.pns_rules.Ends.{remaining}
+use Rattle.tree_laws.specs.tree_rules.Ways.{Way, either, MayBranch, options_at, child_at}
+use Rattle.tree_laws.specs.tree_rules.Ways.{IsDecision}
+use Rattle.tree_laws.specs.tree_rules.Tree.{End, leaf, StepsPass, after_all, Stands}
+use Rattle.tree_laws.specs.tree_rules.Claim.{Claim, claimed_cost}
+use Rattle.tree_laws.specs.tree_rules.Leaf.{Leaf, untried, Scaled, IsUntried}
+use Rattle.tree_laws.specs.tree_rules.Lean.{IsNoDearer, IsLean}
+use Rattle.tree_laws.specs.tree_rules.Accepted.{Tree, Proves}
 use Rattle.tree_laws.specs.Laws.{free_units}
 use Rattle.search_tree.specs.Below.{IsBelow}
 

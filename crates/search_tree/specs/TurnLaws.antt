@@ -3,25 +3,26 @@
 use Rattle.std.specs.Prelude.{◌≡◌, ℕ, ◌+◌, ◌<◌, ◌++◌, slice_set, ℤ, ◌*ℤ◌, ◌≤ℤ◌, Bool, true, List}
 use Rattle.std.specs.Prelude.{[], ◌∷◌, length, Option, Some}
 use Rattle.std.specs.List.{slice_get}
-use Rattle.problem_rules.specs.Problem.{Problem}
-use Rattle.problem_rules.specs.Validity.{IsValid}
-use Rattle.pns_rules.specs.Shape.{shape_of}
-use Rattle.pns_rules.specs.Structure.{IsBetween}
-use Rattle.pns_rules.specs.Nodes.{Node}
-use Rattle.flow_rules.specs.Net.{net_of}
-use Rattle.flow_rules.specs.Flows.{IsFlows, cost}
-use Rattle.tree_rules.specs.Ways.{Way, width}
-use Rattle.tree_rules.specs.Tree.{branch}
-use Rattle.tree_rules.specs.Leaf.{IsUntried}
-use Rattle.tree_rules.specs.Claim.{Claim, unknown, CostOver, claimed_cost, IsAtMost, ClaimPasses}
-use Rattle.tree_rules.specs.Lean.{MayUndercut, HasCheaper, IsNoDearer, IsLean}
-use Rattle.tree_rules.specs.Stops.{IsOpenAt, IsPending, IsNextCount, IsSpent}
-use Rattle.tree_rules.specs.Accepted.{IsAccepted}
+use Rattle.tree_laws.specs.problem_rules.Problem.{Problem}
+use Rattle.tree_laws.specs.problem_rules.Validity.{IsValid}
+use Rattle.tree_laws.specs.pns_rules.Shape.{shape_of}
+use Rattle.tree_laws.specs.pns_rules.Structure.{IsBetween}
+use Rattle.tree_laws.specs.pns_rules.Nodes.{Node}
+use Rattle.tree_laws.specs.flow_rules.Net.{net_of}
+use Rattle.tree_laws.specs.flow_rules.Flows.{IsFlows, cost}
+use Rattle.tree_laws.specs.tree_rules.Ways.{Way, width}
+use Rattle.tree_laws.specs.tree_rules.Tree.{branch}
+use Rattle.tree_laws.specs.tree_rules.Leaf.{IsUntried}
+use Rattle.tree_laws.specs.tree_rules.Claim.{Claim, unknown, CostOver, claimed_cost, IsAtMost}
+use Rattle.tree_laws.specs.tree_rules.Claim.{ClaimPasses}
+use Rattle.tree_laws.specs.tree_rules.Lean.{MayUndercut, HasCheaper, IsNoDearer, IsLean}
+use Rattle.tree_laws.specs.tree_rules.Stops.{IsOpenAt, IsPending, IsNextCount, IsSpent}
+use Rattle.tree_laws.specs.tree_rules.Accepted.{IsAccepted}
 use Rattle.search_tree.specs.Cells.{Cell, place_of, cell_at}
 use Rattle.search_tree.specs.Growth.{as_parent, EndsOpen}
 use Rattle.search_tree.specs.Preorder.{IsPreorder, tree_of}
 use Rattle.search_tree.specs.Values.{IsPositive, IsUnder, IsPositiveCost}
-use Rattle.tree_rules.specs.Costs.{HasFallen}
+use Rattle.tree_laws.specs.tree_rules.Costs.{HasFallen}
 use Rattle.search_tree.specs.Kept.{IsKeptFor}
 use Rattle.search_tree.specs.Turns.{CanBranch, IsLeastOpen, AreChildren, IsBranched, AreShut}
 

@@ -1,14 +1,14 @@
 -- The steps of a turn: a leaf is branched, or open leaves get other ends.
 use Rattle.std.specs.Prelude.{◌≡◌, ◌⊎◌, ℕ, ◌+◌, ◌<◌, true, List, length, map, Option}
-use Rattle.problem_rules.specs.Problem.{Problem}
-use Rattle.pns_rules.specs.Shape.{shape_of}
-use Rattle.pns_rules.specs.Nodes.{Node}
-use Rattle.pns_rules.specs.Ends.{IsSound, IsDead, IsNever, IsReduced}
-use Rattle.tree_rules.specs.Ways.{Way, width, MayBranch, options_at, child_at, IsDecision}
-use Rattle.tree_rules.specs.Tree.{End, branch, leaf}
-use Rattle.tree_rules.specs.Leaf.{Leaf, LeafPasses}
-use Rattle.tree_rules.specs.Claim.{CostOver}
-use Rattle.tree_rules.specs.Lean.{IsNoDearer}
+use Rattle.tree_laws.specs.problem_rules.Problem.{Problem}
+use Rattle.tree_laws.specs.pns_rules.Shape.{shape_of}
+use Rattle.tree_laws.specs.pns_rules.Nodes.{Node}
+use Rattle.tree_laws.specs.pns_rules.Ends.{IsSound, IsDead, IsNever, IsReduced}
+use Rattle.tree_laws.specs.tree_rules.Ways.{Way, width, MayBranch, options_at, child_at, IsDecision}
+use Rattle.tree_laws.specs.tree_rules.Tree.{End, branch, leaf}
+use Rattle.tree_laws.specs.tree_rules.Leaf.{Leaf, LeafPasses}
+use Rattle.tree_laws.specs.tree_rules.Claim.{CostOver}
+use Rattle.tree_laws.specs.tree_rules.Lean.{IsNoDearer}
 use Rattle.search_tree.specs.Cells.{Cell, place_of, cell_at}
 use Rattle.search_tree.specs.Growth.{EndsOpen}
 use Rattle.search_tree.specs.Fits.{Follows}

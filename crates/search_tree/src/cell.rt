@@ -1,7 +1,6 @@
 //! A node of a tree that grows.
-use branch_tree::{End, Steps};
+use branch_tree::{End, Node, Steps, UnitSet};
 use std::marker::Model;
-use unit_sets::{Node, UnitSet};
 
 /// A node of a tree that grows.
 #[derive(Drop)]

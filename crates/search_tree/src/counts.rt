@@ -1,4 +1,5 @@
-ghost use Rattle.search_tree.specs.SearchLaws.{OptionsOfNone, OptionsOfSome, SharesAreSmall, LeanIsFew};
+ghost use Rattle.search_tree.specs.SearchLaws.{OptionsOfNone, OptionsOfSome, SharesAreSmall};
+ghost use Rattle.search_tree.specs.SearchLaws.{LeanIsFew};
 ghost use Rattle.search_tree.specs.SearchLaws.{SpentIsNever};
 
 /// How many options a material has, by its makers that are taken in and its makers that are free.

@@ -1,6 +1,6 @@
 //! How the tree grows.
 ghost use Rattle.std.specs.Prelude.{◌≡◌, ℕ, ◌<◌, ◌≤◌, ◌+◌, ◌++◌, ◌∷◌, [], true, length, slice_set};
-ghost use Rattle.link_lists.specs.Lists.{has};
+ghost use Rattle.node_pool.specs.link_lists.Lists.{has};
 ghost use Rattle.node_pool.specs.Pooled.{IsShut};
 ghost use Rattle.branch_tree.specs.View.{end_of};
 ghost use Rattle.search_tree.specs.Cells.{cell_at};
@@ -9,8 +9,7 @@ ghost use Rattle.search_tree.specs.Growth.{cells_in_turn, values_in_turn};
 
 use crate::cell::Cell;
 use branch_tree::End;
-use exact_numbers::Mixed;
-use node_pool::Pool;
+use node_pool::{Mixed, Pool};
 
 /// A child that is ready, with its value.
 #[derive(Drop)]

@@ -41,12 +41,15 @@ mod turns;
 mod values;
 mod walk;
 
+pub use branch_tree::{Claim, Columns, End, Multipliers, Network, Scaled, Steps, Tree};
 pub use cell::Cell;
 pub use counts::{lean_is_few, options_are_counted, spent_is_never};
 pub use growth::{Fresh, branch};
 pub use laws::{cells_stand, preorder_is_tree, preorder_proves};
+pub use node_pool::{Mixed, Pool, compare_fractions};
 pub use nodes::{children_are_sound, decisions_split, free_units_are_few, reduced_is_structure};
 pub use shut::{Shut, copy_multipliers, copy_scaled};
+pub use tree_laws::{accepted_has_flows, accepted_is_optimal};
 pub use trees::{kept_is_lean, kept_is_spent, open_cells_stand, whole_is_accepted};
 pub use turns::{
     branching_is_kept, growth_is_turn, networks_cost_more, reached_is_no_dearer,

@@ -1,4 +1,5 @@
-ghost use Rattle.search_tree.specs.SearchLaws.{ReducedIsStructure, ReducedIsWithinUnion, FreeUnitsAreFew};
+ghost use Rattle.search_tree.specs.SearchLaws.{ReducedIsStructure, ReducedIsWithinUnion};
+ghost use Rattle.search_tree.specs.SearchLaws.{FreeUnitsAreFew};
 ghost use Rattle.search_tree.specs.SearchLaws.{StepsFreeNone, DecisionsSplit, FreeMakersDecide};
 ghost use Rattle.search_tree.specs.SearchLaws.{ChildrenAreSound};
 

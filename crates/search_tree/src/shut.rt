@@ -1,11 +1,10 @@
 //! What an open leaf ends with in a tree.
 ghost use Rattle.std.specs.Prelude.{◌≡◌, IfOk};
-ghost use Rattle.tree_rules.specs.Tree.{leaf};
+ghost use Rattle.tree_laws.specs.tree_rules.Tree.{leaf};
 ghost use Rattle.branch_tree.specs.View.{end_of};
 ghost use Rattle.search_tree.specs.Shut.{shut_as};
 
-use branch_tree::{End, Multipliers, Scaled};
-use pgraph::Covers;
+use branch_tree::{Covers, End, Multipliers, Scaled};
 use std::alloc::{AllocError, Global};
 
 /// What an open leaf ends with in a tree: what shuts it, or a bound with which it stays open.

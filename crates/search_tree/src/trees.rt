@@ -1,4 +1,5 @@
-ghost use Rattle.search_tree.specs.TurnLaws.{KeptIsLean, WholeIsAccepted, KeptIsSpent, OpenCellsStand};
+ghost use Rattle.search_tree.specs.TurnLaws.{KeptIsLean, WholeIsAccepted, KeptIsSpent};
+ghost use Rattle.search_tree.specs.TurnLaws.{OpenCellsStand};
 
 /// The tree of a search is lean between two turns.
 pub fn kept_is_lean()

@@ -1,11 +1,11 @@
 -- Each branch of a whole tree has fewer children than the tree has nodes.
 use Rattle.std.proofs.Common.{◌≤◌, ◌<◌, ◌+◌, ◌^◌, ℕ, zero, suc, [], ◌∷◌, length, arith}
-use Rattle.tree_rules.specs.Ways as ways
-use Rattle.tree_rules.specs.Tree as trees
-use Rattle.tree_rules.specs.Leaf as leaves
-use Rattle.tree_rules.specs.Accepted.{Tree}
-use Rattle.tree_text_laws.specs.LineFits.{CountsEnd}
-use Rattle.tree_text_laws.specs.Fits.{CountsTree}
+use Rattle.tree_text.specs.tree_rules.Ways as ways
+use Rattle.tree_text.specs.tree_rules.Tree as trees
+use Rattle.tree_text.specs.tree_rules.Leaf as leaves
+use Rattle.tree_text.specs.tree_rules.Accepted.{Tree}
+use Rattle.headed_search.specs.tree_text_laws.LineFits.{CountsEnd}
+use Rattle.headed_search.specs.tree_text_laws.Fits.{CountsTree}
 
 -- a subtree has a node at least
 forest_length : (k : ℕ) (ts : Tree) → trees.IsForest k ts → k ≤ length ts

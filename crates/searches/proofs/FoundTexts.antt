@@ -1,31 +1,31 @@
 -- What a search found, and its certificate.
 use Rattle.std.proofs.Common.{◌≡◌, ◌<◌, ◌^◌, ℕ, false, List, [], ◌∷◌, Option, Some, None, Ok}
 use Rattle.std.proofs.Common.{length, refl, sym, ap, subst, ◌∙◌, arith, inl, inr}
-use Rattle.problem_rules.specs.Problem.{Problem}
-use Rattle.problem_rules.specs.Validity.{IsValid}
-use Rattle.pns_rules.specs.Shape.{Shape}
-use Rattle.pns_rules.specs.Ends.{IsSound}
-use Rattle.tree_rules.specs.Claim as claims
-use Rattle.tree_rules.specs.Claim.{Claim, Network, claimed_cost, ClaimPasses, IsFeasible}
-use Rattle.tree_rules.specs.Accepted.{Tree, first_node}
-use Rattle.tree_laws.specs.Laws.{AcceptedIsOptimal}
-use Rattle.tree_rules.specs.Known.{KnowsClaim, KnowsTree, KnowsTail}
-use Rattle.tree_rules.specs.Tail as tails
-use Rattle.tree_text_rules.specs.Read.{Certificate, read_text}
-use Rattle.tree_text_rules.specs.Spelling.{tree_text, tree_text_lines}
-use Rattle.node_evaluation.specs.Children.{claim_with}
-use Rattle.abb_search.specs.declared.outcome.Found.{Found}
-use Rattle.abb_search.specs.declared.outcome.Found.TheVariants as found
-use Rattle.abb_search.specs.Found.{IsFound}
-use Rattle.tree_rules.specs.Proved.{IsProved}
-use Rattle.studio_rules.specs.Ending.{IsOneOf}
-use Rattle.studio_rules.specs.Lines.{text_of}
-use Rattle.studio_rules.specs.Printed.{spelled, OneAnswer}
-use Rattle.studio_rules.specs.declared.status.Status.{Status}
-use Rattle.studio_rules.specs.declared.status.Status.TheVariants.{Done, Spent, Past}
-use Rattle.command_files.proofs.Printing.{spelled_text}
-use Rattle.studio_rules.specs.Solve.{AreTextOf, Solves, Holds, status_of, PlainWork}
-use Rattle.studio_rules.specs.Summary.{SummaryWork}
+use Rattle.tree_text.specs.problem_rules.Problem.{Problem}
+use Rattle.tree_text.specs.problem_rules.Validity.{IsValid}
+use Rattle.tree_text.specs.pns_rules.Shape.{Shape}
+use Rattle.tree_text.specs.pns_rules.Ends.{IsSound}
+use Rattle.tree_text.specs.tree_rules.Claim as claims
+use Rattle.tree_text.specs.tree_rules.Claim.{Claim, Network, claimed_cost, ClaimPasses, IsFeasible}
+use Rattle.tree_text.specs.tree_rules.Accepted.{Tree, first_node}
+use Rattle.headed_search.specs.tree_laws.Laws.{AcceptedIsOptimal}
+use Rattle.tree_text.specs.tree_rules.Known.{KnowsClaim, KnowsTree, KnowsTail}
+use Rattle.tree_text.specs.tree_rules.Tail as tails
+use Rattle.tree_text.specs.tree_text_rules.Read.{Certificate, read_text}
+use Rattle.tree_text.specs.tree_text_rules.Spelling.{tree_text, tree_text_lines}
+use Rattle.headed_search.specs.node_evaluation.Children.{claim_with}
+use Rattle.headed_search.specs.abb_search.declared.outcome.Found.{Found}
+use Rattle.headed_search.specs.abb_search.declared.outcome.Found.TheVariants as found
+use Rattle.headed_search.specs.abb_search.Found.{IsFound}
+use Rattle.tree_text.specs.tree_rules.Proved.{IsProved}
+use Rattle.command_files.specs.studio_rules.Ending.{IsOneOf}
+use Rattle.command_files.specs.studio_rules.Lines.{text_of}
+use Rattle.command_files.specs.studio_rules.Printed.{spelled, OneAnswer}
+use Rattle.command_files.specs.studio_rules.declared.status.Status.{Status}
+use Rattle.command_files.specs.studio_rules.declared.status.Status.TheVariants.{Done, Spent, Past}
+use Rattle.command_files.proofs.Cited.{spelled_text}
+use Rattle.command_files.specs.studio_rules.Solve.{AreTextOf, Solves, Holds, status_of, PlainWork}
+use Rattle.command_files.specs.studio_rules.Summary.{SummaryWork}
 use Rattle.searches.specs.Found.{certificate_of, CertificateSays, FoundSays}
 
 -- nothing is decided at the first node

@@ -1,32 +1,32 @@
 -- What a search of the expanded problem says of the plant.
 use Rattle.std.proofs.Common.{◌≡◌, ℕ, Bool, List, [], ◌∷◌, codes, refl, sym, subst}
 use Rattle.std.proofs.Common.{Some, inl, inr}
-use Rattle.problem_rules.specs.Problem.{Problem}
-use Rattle.problem_rules.specs.Validity.{IsValid}
-use Rattle.pns_rules.specs.Shape.{shape_of}
-use Rattle.pns_rules.specs.Structure.{IsStructure, IsAllowed}
-use Rattle.plan_rules.specs.Expanded.{expanded}
-use Rattle.plan_rules.specs.Plan.{Plan, IsPlan}
-use Rattle.tree_rules.specs.Claim as claims
-use Rattle.tree_rules.specs.Claim.{Claim, Network, claimed_cost, IsFeasible}
-use Rattle.tree_rules.specs.Costs.{CostsEnough}
-use Rattle.tree_rules.specs.Accepted.{Tree, first_node}
-use Rattle.tree_laws.specs.Laws.{AcceptedIsOptimal}
-use Rattle.tree_rules.specs.Tail as tails
-use Rattle.tree_text_rules.specs.Read.{Certificate}
-use Rattle.node_evaluation.specs.Children.{claim_with}
-use Rattle.abb_search.specs.declared.outcome.Found.{Found}
-use Rattle.abb_search.specs.declared.outcome.Found.TheVariants as found
-use Rattle.abb_search.specs.Found.{IsFound}
-use Rattle.plan_rules.specs.Folded.{folded}
-use Rattle.plan_laws.specs.DesignLaws.{LeastNetworkIsLeastDesign, NoNetworkIsNoDesign}
-use Rattle.studio_rules.specs.declared.status.Status.{Status}
-use Rattle.studio_rules.specs.declared.status.Status.TheVariants.{Done, Spent, Past}
-use Rattle.studio_rules.specs.Solve.{Solves, HasProof, PlainWork}
+use Rattle.tree_text.specs.problem_rules.Problem.{Problem}
+use Rattle.tree_text.specs.problem_rules.Validity.{IsValid}
+use Rattle.tree_text.specs.pns_rules.Shape.{shape_of}
+use Rattle.tree_text.specs.pns_rules.Structure.{IsStructure, IsAllowed}
+use Rattle.command_files.specs.plan_rules.Expanded.{expanded}
+use Rattle.command_files.specs.plan_rules.Plan.{Plan, IsPlan}
+use Rattle.tree_text.specs.tree_rules.Claim as claims
+use Rattle.tree_text.specs.tree_rules.Claim.{Claim, Network, claimed_cost, IsFeasible}
+use Rattle.tree_text.specs.tree_rules.Costs.{CostsEnough}
+use Rattle.tree_text.specs.tree_rules.Accepted.{Tree, first_node}
+use Rattle.headed_search.specs.tree_laws.Laws.{AcceptedIsOptimal}
+use Rattle.tree_text.specs.tree_rules.Tail as tails
+use Rattle.tree_text.specs.tree_text_rules.Read.{Certificate}
+use Rattle.headed_search.specs.node_evaluation.Children.{claim_with}
+use Rattle.headed_search.specs.abb_search.declared.outcome.Found.{Found}
+use Rattle.headed_search.specs.abb_search.declared.outcome.Found.TheVariants as found
+use Rattle.headed_search.specs.abb_search.Found.{IsFound}
+use Rattle.command_files.specs.plan_rules.Folded.{folded}
+use Rattle.command_files.specs.plan_laws.DesignLaws.{LeastNetworkIsLeastDesign, NoNetworkIsNoDesign}
+use Rattle.command_files.specs.studio_rules.declared.status.Status.{Status}
+use Rattle.command_files.specs.studio_rules.declared.status.Status.TheVariants.{Done, Spent, Past}
+use Rattle.command_files.specs.studio_rules.Solve.{Solves, HasProof, PlainWork}
 use Rattle.searches.specs.Found.{CertificateSays, FoundSays}
 use Rattle.searches.proofs.FoundTexts.{solves, holds}
-use Rattle.studio_rules.specs.DesignText.{design_lines}
-use Rattle.studio_rules.specs.Periods.{PeriodsWork}
+use Rattle.command_files.specs.studio_rules.DesignText.{design_lines}
+use Rattle.command_files.specs.studio_rules.Periods.{PeriodsWork}
 
 some_is : {A : Type 0} (P : A → Type 0) (a b : A) → Some a ≡ Some b → P a → P b
 some_is P a b e h = subst P (let e' : a ≡ b = cc in e') h

@@ -1,28 +1,28 @@
 -- What a search finds, and the text of a network with a head and a tree.
 use Rattle.std.proofs.Common.{◌≡◌, ◌∙◌, ℕ, Bool, false, List, Option, Some, None, IfSome, Ok}
 use Rattle.std.proofs.Common.{refl, sym, ap, subst}
-use Rattle.problem_rules.specs.Problem.{Problem}
-use Rattle.pns_rules.specs.Shape.{shape_of}
-use Rattle.pns_rules.specs.Structure.{IsStructure, IsAllowed}
-use Rattle.tree_rules.specs.Claim as claims
-use Rattle.tree_rules.specs.Claim.{ClaimPasses, claimed_cost}
-use Rattle.tree_rules.specs.Costs.{CostsEnough}
-use Rattle.tree_rules.specs.Accepted.{Tree, first_node}
-use Rattle.tree_rules.specs.Tail.{whole}
-use Rattle.tree_rules.specs.Head.{HeadLine}
-use Rattle.tree_rules.specs.HeadedProved.{IsProvedBy}
+use Rattle.tree_text.specs.problem_rules.Problem.{Problem}
+use Rattle.tree_text.specs.pns_rules.Shape.{shape_of}
+use Rattle.tree_text.specs.pns_rules.Structure.{IsStructure, IsAllowed}
+use Rattle.tree_text.specs.tree_rules.Claim as claims
+use Rattle.tree_text.specs.tree_rules.Claim.{ClaimPasses, claimed_cost}
+use Rattle.tree_text.specs.tree_rules.Costs.{CostsEnough}
+use Rattle.tree_text.specs.tree_rules.Accepted.{Tree, first_node}
+use Rattle.tree_text.specs.tree_rules.Tail.{whole}
+use Rattle.tree_text.specs.tree_rules.Head.{HeadLine}
+use Rattle.tree_text.specs.tree_rules.HeadedProved.{IsProvedBy}
 use Rattle.headed_search.specs.declared.headed.Headed.{Headed}
-use Rattle.tree_text_rules.specs.Read.{read_headed_text}
-use Rattle.tree_text_rules.specs.Spelling.{headed_text, headed_text_lines}
-use Rattle.abb_search.specs.declared.outcome.Found.{Found}
-use Rattle.abb_search.specs.declared.outcome.Found.TheVariants as found
-use Rattle.abb_search.specs.Found.{IsFound}
-use Rattle.command_files.proofs.Printing.{spelled_text}
-use Rattle.studio_rules.specs.Lines.{text_of}
-use Rattle.studio_rules.specs.Printed.{spelled, OneAnswer}
-use Rattle.studio_rules.specs.Solve.{SolvesBy, HeadedWork}
-use Rattle.studio_rules.specs.declared.status.Status.{Status}
-use Rattle.studio_rules.specs.declared.status.Status.TheVariants.{Done}
+use Rattle.tree_text.specs.tree_text_rules.Read.{read_headed_text}
+use Rattle.tree_text.specs.tree_text_rules.Spelling.{headed_text, headed_text_lines}
+use Rattle.headed_search.specs.abb_search.declared.outcome.Found.{Found}
+use Rattle.headed_search.specs.abb_search.declared.outcome.Found.TheVariants as found
+use Rattle.headed_search.specs.abb_search.Found.{IsFound}
+use Rattle.command_files.proofs.Cited.{spelled_text}
+use Rattle.command_files.specs.studio_rules.Lines.{text_of}
+use Rattle.command_files.specs.studio_rules.Printed.{spelled, OneAnswer}
+use Rattle.command_files.specs.studio_rules.Solve.{SolvesBy, HeadedWork}
+use Rattle.command_files.specs.studio_rules.declared.status.Status.{Status}
+use Rattle.command_files.specs.studio_rules.declared.status.Status.TheVariants.{Done}
 use Rattle.searches.specs.Solution.{certificate_of}
 
 -- ---- what is found

@@ -3,14 +3,14 @@ use Rattle.std.proofs.Common.{◌≡◌, ◌++◌, ◌∷◌, [], ℕ, ℤ, Bool
 use Rattle.std.proofs.Common.{sym, ap, subst, append_assoc, append-nil}
 use Rattle.std.specs.Fmt.{signed_decimal}
 use Rattle.std.proofs.lemmas.Bool.{both_ways}
-use Rattle.number_sets.specs.Sets.{has, IsSet, Avoids}
-use Rattle.number_sets.proofs.SetLemmas.{below_from}
-use Rattle.problem_rules.specs.Problem.{Problem, unit_names}
-use Rattle.pns_rules.specs.Shape.{Shape, shape_of}
-use Rattle.pns_rules.specs.Structure.{Meets, IsStructure, IsBetween, IsUnion, mats}
-use Rattle.tree_rules.specs.Claim.{Network}
-use Rattle.studio_rules.specs.Lines.{text_of, spaced_names, names_in}
-use Rattle.studio_rules.specs.Summary.{CountsMaximal, summary_lines}
+use Rattle.tree_text.specs.number_sets.Sets.{has, IsSet, Avoids}
+use Rattle.tree_text.proofs.number_sets.Cited.{below_from}
+use Rattle.tree_text.specs.problem_rules.Problem.{Problem, unit_names}
+use Rattle.tree_text.specs.pns_rules.Shape.{Shape, shape_of}
+use Rattle.tree_text.specs.pns_rules.Structure.{Meets, IsStructure, IsBetween, IsUnion, mats}
+use Rattle.tree_text.specs.tree_rules.Claim.{Network}
+use Rattle.command_files.specs.studio_rules.Lines.{text_of, spaced_names, names_in}
+use Rattle.command_files.specs.studio_rules.Summary.{CountsMaximal, summary_lines}
 
 regrouped : (u a f m b n names k c d v e : List ℕ)
     → ((u ++ (a ++ ((f ++ m) ++ (b ++ (f ++ n))))) ++ names)

@@ -6,11 +6,12 @@ use Rattle.std.specs.Fmt.{signed_decimal}
 use Rattle.std.proofs.Math.Seq.{drop-cons}
 use Rattle.std.proofs.lemmas.Grind.{flat_map-append}
 use Rattle.std.proofs.lemmas.List.{drop_all}
-use Rattle.problem_rules.specs.Problem.{Problem}
-use Rattle.plan_rules.specs.Folded.{Run, Written}
-use Rattle.studio_rules.specs.Lines.{line, text_of}
-use Rattle.studio_rules.specs.DesignText.{spaced_units, spaced_numbers, built_lines, run_lines}
-use Rattle.studio_rules.specs.DesignText.{runs_lines, design_lines}
+use Rattle.tree_text.specs.problem_rules.Problem.{Problem}
+use Rattle.command_files.specs.plan_rules.Folded.{Run, Written}
+use Rattle.command_files.specs.studio_rules.Lines.{line, text_of}
+use Rattle.command_files.specs.studio_rules.DesignText.{spaced_units, spaced_numbers, built_lines}
+use Rattle.command_files.specs.studio_rules.DesignText.{run_lines}
+use Rattle.command_files.specs.studio_rules.DesignText.{runs_lines, design_lines}
 
 rest_from : {A : Type 0} (xs : List A) (i : ℕ) (x : A) → i < length xs → x ≡ get_or xs i x
     → drop i xs ≡ x ∷ drop (i + 1) xs

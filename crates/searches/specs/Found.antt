@@ -1,15 +1,16 @@
 -- The text of what a search found, for the proof of the commands that search.
 use Rattle.std.specs.Prelude.{◌≡◌, ℕ, List, Option, Some, None}
-use Rattle.problem_rules.specs.Problem.{Problem}
-use Rattle.tree_rules.specs.Claim as claims
-use Rattle.tree_rules.specs.Tail as tails
-use Rattle.tree_text_rules.specs.Read.{Certificate}
-use Rattle.node_evaluation.specs.Children.{claim_with}
-use Rattle.abb_search.specs.declared.outcome.Found.{Found}
-use Rattle.abb_search.specs.declared.outcome.Found.TheVariants.{Solved, Infeasible, Spent, Past}
-use Rattle.abb_search.specs.declared.outcome.Found.TheVariants.{Memory}
-use Rattle.studio_rules.specs.Solve.{AreTextOf, status_of}
-use Rattle.studio_rules.specs.declared.status.Status.{Status}
+use Rattle.tree_text.specs.problem_rules.Problem.{Problem}
+use Rattle.tree_text.specs.tree_rules.Claim as claims
+use Rattle.tree_text.specs.tree_rules.Tail as tails
+use Rattle.tree_text.specs.tree_text_rules.Read.{Certificate}
+use Rattle.headed_search.specs.node_evaluation.Children.{claim_with}
+use Rattle.headed_search.specs.abb_search.declared.outcome.Found.{Found}
+use Rattle.headed_search.specs.abb_search.declared.outcome.Found.TheVariants.{Solved, Infeasible}
+use Rattle.headed_search.specs.abb_search.declared.outcome.Found.TheVariants.{Spent, Past}
+use Rattle.headed_search.specs.abb_search.declared.outcome.Found.TheVariants.{Memory}
+use Rattle.command_files.specs.studio_rules.Solve.{AreTextOf, status_of}
+use Rattle.command_files.specs.studio_rules.declared.status.Status.{Status}
 
 -- the claim, the tree and the tail that are found
 abbrev pub certificate_of : Found → Option Certificate

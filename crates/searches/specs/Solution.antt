@@ -1,13 +1,13 @@
 -- What a search finds, if it may look for a head.
 use Rattle.std.specs.Prelude.{ℕ, List}
-use Rattle.problem_rules.specs.Problem.{Problem}
-use Rattle.tree_rules.specs.Claim as claims
-use Rattle.tree_rules.specs.Accepted.{Tree, first_node}
-use Rattle.tree_rules.specs.Tail.{whole}
-use Rattle.tree_rules.specs.Head.{HeadLine}
-use Rattle.tree_text_rules.specs.Read.{HeadedCertificate}
-use Rattle.abb_search.specs.Found.{IsFound}
-use Rattle.studio_rules.specs.Solve.{SolvesBy}
+use Rattle.tree_text.specs.problem_rules.Problem.{Problem}
+use Rattle.tree_text.specs.tree_rules.Claim as claims
+use Rattle.tree_text.specs.tree_rules.Accepted.{Tree, first_node}
+use Rattle.tree_text.specs.tree_rules.Tail.{whole}
+use Rattle.tree_text.specs.tree_rules.Head.{HeadLine}
+use Rattle.tree_text.specs.tree_text_rules.Read.{HeadedCertificate}
+use Rattle.headed_search.specs.abb_search.Found.{IsFound}
+use Rattle.command_files.specs.studio_rules.Solve.{SolvesBy}
 use Rattle.searches.specs.declared.solves_search.Solution.{Solution}
 use Rattle.searches.specs.declared.solves_search.Solution.TheVariants.{Plain, WithHead}
 

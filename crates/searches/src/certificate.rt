@@ -1,31 +1,28 @@
 //! What a search found, as a text of a claim, a tree and a tail.
 ghost use Rattle.std.specs.Prelude.{◌≡◌, ◌≤◌, ◌<◌, ◌^◌, ℕ, Ok, length};
-ghost use Rattle.tree_rules.specs.Known.{KnowsClaim, KnowsTree, KnowsTail};
-ghost use Rattle.branch_tree.specs.View.{claim_of, tail_of};
-ghost use Rattle.tree_rules.specs.Accepted.{first_node};
-ghost use Rattle.tree_text_rules.specs.Read.{read_text};
-ghost use Rattle.tree_text_rules.specs.Spelling.{tree_text, tree_text_lines};
+ghost use Rattle.tree_text.specs.tree_rules.Known.{KnowsClaim, KnowsTree, KnowsTail};
+ghost use Rattle.tree_text.specs.branch_tree.View.{claim_of, tail_of};
+ghost use Rattle.tree_text.specs.tree_rules.Accepted.{first_node};
+ghost use Rattle.tree_text.specs.tree_text_rules.Read.{read_text};
+ghost use Rattle.tree_text.specs.tree_text_rules.Spelling.{tree_text, tree_text_lines};
 ghost use Rattle.tree_text.specs.Prints.{Prints};
-ghost use Rattle.tree_text_laws.specs.Fits.{CountsTail, KeepsClaim};
-ghost use Rattle.tree_text_laws.specs.LineFits.{CountsPlace};
-ghost use Rattle.node_evaluation.specs.Children.{claim_with};
-ghost use Rattle.abb_search.specs.Found.{IsFound};
-ghost use Rattle.studio_rules.specs.Ending.{Ends, Tells};
-ghost use Rattle.studio_rules.specs.Solve.{status_of};
+ghost use Rattle.headed_search.specs.tree_text_laws.Fits.{CountsTail, KeepsClaim};
+ghost use Rattle.headed_search.specs.tree_text_laws.LineFits.{CountsPlace};
+ghost use Rattle.headed_search.specs.node_evaluation.Children.{claim_with};
+ghost use Rattle.headed_search.specs.abb_search.Found.{IsFound};
+ghost use Rattle.command_files.specs.studio_rules.Ending.{Ends, Tells};
+ghost use Rattle.command_files.specs.studio_rules.Solve.{status_of};
 ghost use Rattle.searches.specs.Found.{certificate_of, CertificateSays, FoundSays};
 
 use crate::stopped::{claimed, stopped_notes};
-use abb_search::Found;
-use branch_tree::{Claim, Network, Tail, Tree};
+use command_files::Status;
 use command_files::say::{say_memory, say_searched};
-use flow_rules::Place;
-use pns_io::{Outputs, Sink};
-use pns_problem::Problem;
+use headed_search::{
+    Claim, Found, Network, Outputs, Place, Problem, Sink, Tail, Tree, spelled_texts_read,
+};
 use std::alloc::Global;
 use std::marker::Model;
-use studio_rules::Status;
 use tree_text::{PrintFault, print_tree};
-use tree_text_laws::spelled_texts_read;
 
 /// What is claimed, the tree, and a tail that says at which node the search stopped, if it did.
 #[derive(Drop)]
@@ -36,8 +33,8 @@ pub struct Certificate {
 }
 
 impl Model for Certificate {
-    ghost use Rattle.tree_text_rules.specs.Read as rules;
-    ghost use Rattle.branch_tree.specs.View.{claim_of, tail_of};
+    ghost use Rattle.tree_text.specs.tree_text_rules.Read as rules;
+    ghost use Rattle.tree_text.specs.branch_tree.View.{claim_of, tail_of};
 
     ghost Value = { rules.Certificate };
 

@@ -3,15 +3,15 @@ ghost use Rattle.std.specs.Prelude.{◌≡◌, ◌≤◌, ◌<◌, ◌+◌, ◌+
 ghost use Rattle.std.specs.Prelude.{decimal};
 ghost use Rattle.std.specs.Prelude.{length, string_bytes};
 ghost use Rattle.std.specs.Fmt.{signed_decimal};
-ghost use Rattle.studio_rules.specs.Lines.{text_of};
-ghost use Rattle.studio_rules.specs.DesignText.{spaced_units, spaced_numbers, built_lines};
-ghost use Rattle.studio_rules.specs.DesignText.{run_lines, runs_lines, design_lines};
+ghost use Rattle.command_files.specs.studio_rules.Lines.{text_of};
+ghost use Rattle.command_files.specs.studio_rules.DesignText.{spaced_units, spaced_numbers};
+ghost use Rattle.command_files.specs.studio_rules.DesignText.{built_lines};
+ghost use Rattle.command_files.specs.studio_rules.DesignText.{run_lines, runs_lines, design_lines};
 
-use periods::{Design, Run};
 use command_files::line::push_unit_names;
-use pns_problem::Problem;
+use command_files::{Design, Run};
+use headed_search::{Problem, UnitSet};
 use std::alloc::{AllocError, Global};
-use unit_sets::UnitSet;
 
 fn push_number(line: &mut String, number: i128) -> Result<(), AllocError>
     ensures { OnOk result

@@ -1,28 +1,25 @@
 //! The command `expand`.
 ghost use Rattle.std.specs.Prelude.{◌≡◌, IfOk};
-ghost use Rattle.text_rules.specs.Canonical.{canonical};
-ghost use Rattle.plan_rules.specs.Expanded.{expanded};
-ghost use Rattle.plan_rules.specs.Plan.{IsPlan};
-ghost use Rattle.studio_rules.specs.Reading.{TwoFilesSay};
-ghost use Rattle.studio_rules.specs.Plan.{OnPlan};
-ghost use Rattle.studio_rules.specs.Expand.{ExpandWork};
-ghost use Rattle.studio_rules.specs.Ending.{Ends, Says};
-ghost use Rattle.studio_rules.specs.Keeps.{Keeps};
+ghost use Rattle.tree_text.specs.text_rules.Canonical.{canonical};
+ghost use Rattle.command_files.specs.plan_rules.Expanded.{expanded};
+ghost use Rattle.command_files.specs.plan_rules.Plan.{IsPlan};
+ghost use Rattle.command_files.specs.studio_rules.Reading.{TwoFilesSay};
+ghost use Rattle.command_files.specs.studio_rules.Plan.{OnPlan};
+ghost use Rattle.command_files.specs.studio_rules.Expand.{ExpandWork};
+ghost use Rattle.command_files.specs.studio_rules.Ending.{Ends, Says};
+ghost use Rattle.command_files.specs.studio_rules.Keeps.{Keeps};
 
-use command_files::{plan_of, problem_of};
 use command_files::say::say_made;
-use periods::Plan;
-use pns_io::{Outputs, Shelf, Sink};
-use pns_problem::Problem;
+use command_files::{Plan, Status, plan_of, problem_of};
+use headed_search::{Outputs, Problem, Shelf, Sink};
 use std::alloc::{AllocError, Global};
-use studio_rules::Status;
 
 /// The canonical text of the expanded problem.
 fn expanded_text(alloc: Global, problem: &Problem, plan: &Plan) -> Result<Vec<u8>, AllocError>
     requires { IsPlan problem.now plan.now }
     ensures { IfOk result (λ text. text.items ≡ canonical (expanded problem.now plan.now)) }
 {
-    let whole = periods::expand(alloc, problem, plan)?;
+    let whole = command_files::expand(alloc, problem, plan)?;
     whole.canonical_text(alloc)
 }
 

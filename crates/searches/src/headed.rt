@@ -1,25 +1,22 @@
 //! The text of a network with a head and a tree.
 ghost use Rattle.std.specs.Prelude.{◌≡◌, ◌<◌, ◌^◌, Ok, length};
-ghost use Rattle.tree_rules.specs.Claim as claims;
-ghost use Rattle.tree_rules.specs.Tail as tails;
-ghost use Rattle.tree_rules.specs.Known.{AreUnits, KnowsTree};
-ghost use Rattle.tree_rules.specs.HeadKnown.{KnowsHead};
-ghost use Rattle.tree_text_rules.specs.Read.{read_headed_text};
-ghost use Rattle.tree_text_rules.specs.Spelling.{headed_text};
-ghost use Rattle.studio_rules.specs.Solve.{SolvesBy, HeadedWork};
-ghost use Rattle.studio_rules.specs.Ending.{Ends, Tells};
+ghost use Rattle.tree_text.specs.tree_rules.Claim as claims;
+ghost use Rattle.tree_text.specs.tree_rules.Tail as tails;
+ghost use Rattle.tree_text.specs.tree_rules.Known.{AreUnits, KnowsTree};
+ghost use Rattle.tree_text.specs.tree_rules.HeadKnown.{KnowsHead};
+ghost use Rattle.tree_text.specs.tree_text_rules.Read.{read_headed_text};
+ghost use Rattle.tree_text.specs.tree_text_rules.Spelling.{headed_text};
+ghost use Rattle.command_files.specs.studio_rules.Solve.{SolvesBy, HeadedWork};
+ghost use Rattle.command_files.specs.studio_rules.Ending.{Ends, Tells};
 ghost use Rattle.searches.specs.Solution.{certificate_of};
 
-use branch_tree::{Claim, Network, Tail, Tree};
+use command_files::Status;
 use command_files::say::say_printed;
-use branch_tree::Head;
-use headed_search::Headed;
-use pns_io::{Outputs, Sink};
-use pns_problem::Problem;
+use headed_search::{
+    Claim, Head, Headed, Network, Outputs, Problem, Sink, Tail, Tree, spelled_headed_texts_read,
+};
 use std::alloc::Global;
-use studio_rules::Status;
 use tree_text::print_headed;
-use tree_text_laws::spelled_headed_texts_read;
 
 // The text reads back as the network, the head and the tree. A call shows this to a proof, and does
 // nothing.

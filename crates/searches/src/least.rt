@@ -1,30 +1,25 @@
 //! The search of all designs of a plant over its periods.
 ghost use Rattle.std.specs.Prelude.{◌≡◌, ◌≤◌, IfOk};
-ghost use Rattle.plan_rules.specs.Expanded.{expanded};
-ghost use Rattle.plan_rules.specs.Plan.{IsPlan};
-ghost use Rattle.tree_rules.specs.Claim.{IsFeasible};
-ghost use Rattle.plan_rules.specs.Folded.{folded};
-ghost use Rattle.studio_rules.specs.Lines.{text_of};
-ghost use Rattle.studio_rules.specs.Ending.{Ends, Tells};
-ghost use Rattle.studio_rules.specs.DesignText.{design_lines};
-ghost use Rattle.studio_rules.specs.Periods.{PeriodsWork};
+ghost use Rattle.command_files.specs.plan_rules.Expanded.{expanded};
+ghost use Rattle.command_files.specs.plan_rules.Plan.{IsPlan};
+ghost use Rattle.tree_text.specs.tree_rules.Claim.{IsFeasible};
+ghost use Rattle.command_files.specs.plan_rules.Folded.{folded};
+ghost use Rattle.command_files.specs.studio_rules.Lines.{text_of};
+ghost use Rattle.command_files.specs.studio_rules.Ending.{Ends, Tells};
+ghost use Rattle.command_files.specs.studio_rules.DesignText.{design_lines};
+ghost use Rattle.command_files.specs.studio_rules.Periods.{PeriodsWork};
 
 use crate::design_text::design_text;
-use abb_search::Found;
-use branch_tree::Network;
-use plan_laws::{least_network_is_least_design, no_network_is_no_design};
-use periods::fold;
-use command_files::say::{say, say_made, say_memory};
-use periods::{Plan, expand};
-use pgraph::Graph;
-use plan_laws::plans_are_short;
-use pns_io::{Outputs, Sink};
-use pns_problem::Problem;
-use pns_io::{Effort, Watch};
 use crate::{say_found, search_all};
+use command_files::say::{say, say_made, say_memory};
+use command_files::{
+    Plan, Status, expand, fold, least_network_is_least_design, no_network_is_no_design,
+    plans_are_short,
+};
+use headed_search::{
+    Effort, Found, Graph, Network, Outputs, Problem, Sink, Watch, accepted_is_optimal,
+};
 use std::alloc::{AllocError, Global};
-use studio_rules::Status;
-use tree_laws::accepted_is_optimal;
 
 /// The text of the design that the network stands for.
 fn network_text(

@@ -38,6 +38,12 @@ mod summary;
 pub mod trial;
 
 pub use certificate::{Certificate, certificate_of, say_found, status_of, tail_is_counted};
+pub use command_files::{
+    Format, Source, Status, bytes_of, network_line, problem_of, rank_why_word, say, say_tree_fault,
+};
+pub use headed_search::{
+    Found, Headed, Ranked, alternatives_watched, rank_watched, search_watched,
+};
 pub use least::say_least;
 pub use search::search_all;
 pub use solves_search::{Solution, search_best};

@@ -1,18 +1,15 @@
 //! The command `periods`.
 ghost use Rattle.std.specs.Prelude.{◌≡◌, ◌≤◌};
-ghost use Rattle.studio_rules.specs.Reading.{TwoFilesSay};
-ghost use Rattle.studio_rules.specs.Plan.{OnPlan};
-ghost use Rattle.studio_rules.specs.Ending.{Ends, Says};
-ghost use Rattle.studio_rules.specs.Keeps.{Keeps};
-ghost use Rattle.studio_rules.specs.Periods.{PeriodsWork};
+ghost use Rattle.command_files.specs.studio_rules.Reading.{TwoFilesSay};
+ghost use Rattle.command_files.specs.studio_rules.Plan.{OnPlan};
+ghost use Rattle.command_files.specs.studio_rules.Ending.{Ends, Says};
+ghost use Rattle.command_files.specs.studio_rules.Keeps.{Keeps};
+ghost use Rattle.command_files.specs.studio_rules.Periods.{PeriodsWork};
 
 use crate::least::say_least;
-use command_files::{plan_of, problem_of};
-use pns_io::{Outputs, Shelf, Sink};
-use pns_problem::Problem;
-use pns_io::{Effort, Watch};
+use command_files::{Status, plan_of, problem_of};
+use headed_search::{Effort, Outputs, Problem, Shelf, Sink, Watch};
 use std::alloc::Global;
-use studio_rules::Status;
 
 fn say_planned<F: Shelf, K: Sink, E: Sink, W: Watch>(
     alloc: Global,

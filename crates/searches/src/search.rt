@@ -1,17 +1,12 @@
 //! The search of a whole problem.
 ghost use Rattle.std.specs.Prelude.{◌≡◌, ◌≤◌};
-ghost use Rattle.pns_rules.specs.Shape.{shape_of};
-ghost use Rattle.pgraph.specs.Tables.{shape};
-ghost use Rattle.tree_rules.specs.Accepted.{first_node};
-ghost use Rattle.abb_search.specs.Found.{IsFound};
+ghost use Rattle.tree_text.specs.pns_rules.Shape.{shape_of};
+ghost use Rattle.tree_text.specs.pgraph.Tables.{shape};
+ghost use Rattle.tree_text.specs.tree_rules.Accepted.{first_node};
+ghost use Rattle.headed_search.specs.abb_search.Found.{IsFound};
 
-use abb_search::Found;
-use pgraph::{Graph, Site};
-use pns_problem::Problem;
-use pns_io::{Effort, Watch};
-use solver::search_watched;
+use headed_search::{Effort, Found, Graph, Node, Problem, Site, UnitSet, Watch, search_watched};
 use std::alloc::Global;
-use unit_sets::{Node, UnitSet};
 
 /// Searches all structures of the problem.
 pub fn search_all<W: Watch>(

@@ -1,22 +1,17 @@
 //! The command `solve`.
 ghost use Rattle.std.specs.Prelude.{◌≤◌};
-ghost use Rattle.studio_rules.specs.Solve.{SolveWork};
-ghost use Rattle.studio_rules.specs.Reading.{FileSays};
-ghost use Rattle.studio_rules.specs.Ending.{Ends, Tells};
-ghost use Rattle.studio_rules.specs.Keeps.{Keeps};
+ghost use Rattle.command_files.specs.studio_rules.Solve.{SolveWork};
+ghost use Rattle.command_files.specs.studio_rules.Reading.{FileSays};
+ghost use Rattle.command_files.specs.studio_rules.Ending.{Ends, Tells};
+ghost use Rattle.command_files.specs.studio_rules.Keeps.{Keeps};
 
 use crate::headed::say_headed;
-use crate::solves_search::{Solution, search_best};
-use command_files::problem_of;
-use command_files::say::say_memory;
-use pgraph::Graph;
-use pns_io::{Outputs, Shelf, Sink};
-use pns_problem::Problem;
-use pns_io::{Effort, Watch};
 use crate::say_found;
+use crate::solves_search::{Solution, search_best};
+use command_files::say::say_memory;
+use command_files::{Status, problem_of};
+use headed_search::{Effort, Graph, Outputs, Problem, Shelf, Sink, Watch, accepted_is_optimal};
 use std::alloc::Global;
-use studio_rules::Status;
-use tree_laws::accepted_is_optimal;
 
 /// Prints a network of least cost with the tree that proves it, or that no network has flows. Of a
 /// search that stopped it prints how far that came.

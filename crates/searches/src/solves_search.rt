@@ -1,18 +1,13 @@
 //! A search that looks for a head if it is not small.
 ghost use Rattle.std.specs.Prelude.{◌≡◌, ◌≤◌, IfSome};
-ghost use Rattle.pns_rules.specs.Shape.{shape_of};
-ghost use Rattle.pgraph.specs.Tables.{shape};
-ghost use Rattle.tree_rules.specs.Claim.{network};
-ghost use Rattle.studio_rules.specs.Solve.{SolvesBy};
+ghost use Rattle.tree_text.specs.pns_rules.Shape.{shape_of};
+ghost use Rattle.tree_text.specs.pgraph.Tables.{shape};
+ghost use Rattle.tree_text.specs.tree_rules.Claim.{network};
+ghost use Rattle.command_files.specs.studio_rules.Solve.{SolvesBy};
 ghost use Rattle.searches.specs.Solution.{IsSolution};
 
-use abb_search::Found;
-use branch_tree::Network;
-use headed_search::{Headed, search_headed};
-use pgraph::{Graph, Site};
-use pns_problem::Problem;
-use pns_io::{Effort, Watch};
 use crate::search_all;
+use headed_search::{Effort, Found, Graph, Headed, Network, Problem, Site, Watch, search_headed};
 use std::alloc::Global;
 
 // A search that ends within so many nodes needs no head. They are enough for a first network, and

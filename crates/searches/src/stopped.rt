@@ -1,10 +1,9 @@
 //! What is printed for people of a search that stopped.
 ghost use Rattle.std.specs.Prelude.{◌≡◌};
 
-use branch_tree::{Claim, Network, Tail};
+use command_files::{Notes, Stop, not_finished};
+use headed_search::{Claim, Network, Problem, Tail};
 use report_amounts::push_six_digits;
-use studio_words::{Notes, Stop, not_finished};
-use pns_problem::Problem;
 use std::alloc::{AllocError, Global};
 
 // The cost of the network in one year, with 6 digits.

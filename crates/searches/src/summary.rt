@@ -2,31 +2,26 @@
 ghost use Rattle.std.specs.Prelude.{◌≡◌, ◌≤◌, ◌++◌, ◌∷◌, [], ℕ, Bool, IfOk, codes, decimal, length};
 ghost use Rattle.std.specs.Prelude.{string_bytes};
 ghost use Rattle.std.specs.Fmt.{signed_decimal};
-ghost use Rattle.pns_rules.specs.Shape.{shape_of};
-ghost use Rattle.pns_rules.specs.Structure.{IsStructure};
-ghost use Rattle.pgraph.specs.Tables.{shape};
-ghost use Rattle.tree_rules.specs.Claim as claims;
-ghost use Rattle.studio_rules.specs.Solve.{Solves};
-ghost use Rattle.studio_rules.specs.Summary.{CountsMaximal, SummarySays, SummaryWork};
-ghost use Rattle.studio_rules.specs.Summary.{summary_lines};
-ghost use Rattle.studio_rules.specs.Lines.{text_of};
-ghost use Rattle.studio_rules.specs.Ending.{Ends, Tells};
+ghost use Rattle.tree_text.specs.pns_rules.Shape.{shape_of};
+ghost use Rattle.tree_text.specs.pns_rules.Structure.{IsStructure};
+ghost use Rattle.tree_text.specs.pgraph.Tables.{shape};
+ghost use Rattle.tree_text.specs.tree_rules.Claim as claims;
+ghost use Rattle.command_files.specs.studio_rules.Solve.{Solves};
+ghost use Rattle.command_files.specs.studio_rules.Summary.{CountsMaximal, SummarySays, SummaryWork};
+ghost use Rattle.command_files.specs.studio_rules.Summary.{summary_lines};
+ghost use Rattle.command_files.specs.studio_rules.Lines.{text_of};
+ghost use Rattle.command_files.specs.studio_rules.Ending.{Ends, Tells};
 
 use crate::certificate::say_found;
 use crate::search::search_all;
-use abb_search::Found;
-use branch_tree::{Network, Tree};
+use command_files::Status;
 use command_files::line::push_unit_names;
 use command_files::say::{say_made, say_memory};
-use structure_list::maximal;
-use pgraph::Graph;
-use pns_io::{Outputs, Sink};
-use pns_problem::Problem;
-use pns_io::{Effort, Watch};
+use headed_search::{
+    Effort, Found, Graph, Network, Outputs, Problem, Sink, Tree, UnitSet, Watch,
+    accepted_is_optimal, maximal,
+};
 use std::alloc::{AllocError, Global};
-use studio_rules::Status;
-use tree_laws::accepted_is_optimal;
-use unit_sets::UnitSet;
 
 /// How many units the maximal structure has.
 fn maximal_count(problem: &Problem, graph: &Graph) -> u32

@@ -1,15 +1,13 @@
 //! The command `trial`.
 ghost use Rattle.std.specs.Prelude.{◌≤◌};
-ghost use Rattle.studio_rules.specs.Trial.{TrialWork};
-ghost use Rattle.studio_rules.specs.Ending.{Ends, Tells};
+ghost use Rattle.command_files.specs.studio_rules.Trial.{TrialWork};
+ghost use Rattle.command_files.specs.studio_rules.Ending.{Ends, Tells};
 
 use crate::summary::say_summed;
+use command_files::Status;
 use command_files::say::say_memory;
-use pns_problem::generate;
-use pns_io::{Outputs, Sink};
-use pns_io::{Effort, Watch};
+use headed_search::{Effort, Outputs, Sink, Watch, generate};
 use std::alloc::Global;
-use studio_rules::Status;
 
 /// Prints what a search finds of the problem of this number with this many operating units, 1 to
 /// 128.

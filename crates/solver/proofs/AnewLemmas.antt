@@ -1,19 +1,19 @@
 -- A search that starts anew with the best network so far, or a cheaper one.
 use Rattle.std.specs.Prelude.{IfSome}
 use Rattle.std.proofs.Common.{◌≡◌, ◌⊎◌, ℕ, true, Option, Some, None, inl, inr, refl, sym, subst}
-use Rattle.problem_rules.specs.Problem.{Problem}
-use Rattle.pns_rules.specs.Nodes.{Node}
-use Rattle.tree_rules.specs.Claim as claims
-use Rattle.tree_rules.specs.Claim.{ClaimPasses}
-use Rattle.tree_rules.specs.Accepted.{Tree}
-use Rattle.tree_rules.specs.Costs.{HasFallen}
-use Rattle.node_evaluation.specs.Evaluated.{PastPlaces, IsAtHand}
-use Rattle.node_evaluation.specs.Looks.{cost_of}
-use Rattle.node_evaluation.specs.Children.{claim_with}
-use Rattle.abb_search.specs.declared.outcome.Found.{Found}
-use Rattle.abb_search.specs.Found.{IsFoundBy}
-use Rattle.abb_search.specs.Answers.{IsAgainst}
-use Rattle.abb_search.proofs.StepLemmas.{passes_positive, fallen_trans, against_after}
+use Rattle.flow_evaluator.specs.problem_rules.Problem.{Problem}
+use Rattle.flow_evaluator.specs.pns_rules.Nodes.{Node}
+use Rattle.flow_evaluator.specs.tree_rules.Claim as claims
+use Rattle.flow_evaluator.specs.tree_rules.Claim.{ClaimPasses}
+use Rattle.flow_evaluator.specs.tree_rules.Accepted.{Tree}
+use Rattle.flow_evaluator.specs.tree_rules.Costs.{HasFallen}
+use Rattle.flow_evaluator.specs.node_evaluation.Evaluated.{PastPlaces, IsAtHand}
+use Rattle.flow_evaluator.specs.node_evaluation.Looks.{cost_of}
+use Rattle.flow_evaluator.specs.node_evaluation.Children.{claim_with}
+use Rattle.rank_search.specs.abb_search.declared.outcome.Found.{Found}
+use Rattle.rank_search.specs.abb_search.Found.{IsFoundBy}
+use Rattle.rank_search.specs.abb_search.Answers.{IsAgainst}
+use Rattle.rank_search.proofs.abb_search.Cited.{passes_positive, fallen_trans, against_after}
 
 -- a trial network passes as a claim
 pub hand_passes : (p : Problem) (n : Node) (w : Option claims.Network) → IfSome w (IsAtHand p n)

@@ -1,24 +1,20 @@
 //! A search over the simplex method that starts anew with charges, if it is not small.
 ghost use Rattle.std.specs.Prelude.{◌≡◌, ◌≤◌, true};
-ghost use Rattle.pns_rules.specs.Shape.{shape_of};
-ghost use Rattle.pns_rules.specs.Ends.{IsSound};
-ghost use Rattle.pgraph.specs.View.{node_of};
-ghost use Rattle.neutral_extension.specs.Candidates.{AreMakersOf};
-ghost use Rattle.tree_rules.specs.Claim.{ClaimPasses};
-ghost use Rattle.tree_rules.specs.Costs.{HasFallen};
-ghost use Rattle.node_evaluation.specs.Looks.{cost_of};
-ghost use Rattle.node_evaluation.specs.Children.{claim_with};
+ghost use Rattle.flow_evaluator.specs.pns_rules.Shape.{shape_of};
+ghost use Rattle.flow_evaluator.specs.pns_rules.Ends.{IsSound};
+ghost use Rattle.flow_evaluator.specs.pgraph.View.{node_of};
+ghost use Rattle.flow_evaluator.specs.neutral_extension.Candidates.{AreMakersOf};
+ghost use Rattle.flow_evaluator.specs.tree_rules.Claim.{ClaimPasses};
+ghost use Rattle.flow_evaluator.specs.tree_rules.Costs.{HasFallen};
+ghost use Rattle.flow_evaluator.specs.node_evaluation.Looks.{cost_of};
+ghost use Rattle.flow_evaluator.specs.node_evaluation.Children.{claim_with};
 ghost use Rattle.flow_evaluator.specs.Evaluating.{IsFor};
-ghost use Rattle.abb_search.specs.Answers.{IsAgainst};
-ghost use Rattle.abb_search.specs.Found.{IsFound};
+ghost use Rattle.rank_search.specs.abb_search.Answers.{IsAgainst};
+ghost use Rattle.rank_search.specs.abb_search.Found.{IsFound};
 
 use crate::workspace::FlowWorkspace;
-use abb_search::{Found, look_at_root, run, search_with};
-use branch_tree::Network;
-use node_evaluation::cheaper;
-use pgraph::Site;
-use pns_io::{Effort, Watch};
-use unit_sets::{Node, UnitSet};
+use flow_evaluator::{Network, Node, Site, UnitSet, cheaper};
+use rank_search::{Effort, Found, Watch, look_at_root, run, search_with};
 
 // A search that ends within so many nodes needs no charges, which cost more time than they save.
 const FEW_NODES: u32 = 300;

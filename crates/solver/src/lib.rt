@@ -23,6 +23,13 @@ mod whole;
 mod workspace;
 
 pub use anew::search_flows;
+pub use flow_evaluator::{
+    Bound, ChargeGuess, Claim, Columns, CostOver, Graph, Kind, Network, Node, PastSum, Problem,
+    Proposal, Range, Ready, Site, Tree, UnitSet, Use, User, accepted_has_flows,
+    accepted_is_optimal, amount_text, checked_difference, checked_product, checked_sum, cost_of,
+    lowest_terms,
+};
+pub use rank_search::{Effort, Found, Outputs, Ranked, Shelf, Sink, Watch};
 pub use rankings::{alternatives_watched, rank, rank_watched};
 pub use turns::Search;
 pub use whole::{search, search_against, search_watched};

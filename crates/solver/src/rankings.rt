@@ -1,16 +1,13 @@
 //! The best networks, and the best plants that really differ, over the simplex method.
 ghost use Rattle.std.specs.Prelude.{◌≡◌, ◌≤◌};
-ghost use Rattle.pns_rules.specs.Shape.{shape_of};
-ghost use Rattle.pgraph.specs.Tables.{shape};
+ghost use Rattle.flow_evaluator.specs.pns_rules.Shape.{shape_of};
+ghost use Rattle.flow_evaluator.specs.pgraph.Tables.{shape};
 ghost use Rattle.rank_search.specs.Ranked.{IsRankedTo};
 ghost use Rattle.rank_search.specs.DistinctListed.{IsListedTo};
 
 use crate::workspace::workspace_of;
-use rank_search::alternatives_with;
-use pgraph::{Graph, Site};
-use pns_problem::Problem;
-use pns_io::{Effort, NoWatch, Watch};
-use rank_search::{Ranked, rank_with};
+use flow_evaluator::{Graph, Problem, Site};
+use rank_search::{Effort, NoWatch, Ranked, Watch, alternatives_with, rank_with};
 use std::alloc::Global;
 
 /// Searches as [`rank`] does, and reports how far it is.

@@ -1,26 +1,22 @@
 //! A search over the simplex method that is taken turn by turn.
 ghost use Rattle.std.specs.Prelude.{◌≡◌, ◌≤◌, true, false, is_some, None, Some, IfOk};
 ghost use Rattle.std.specs.Prelude.{option_copied, length};
-ghost use Rattle.pns_rules.specs.Shape.{shape_of};
-ghost use Rattle.pns_rules.specs.Ends.{IsSound};
-ghost use Rattle.pgraph.specs.Tables.{shape};
-ghost use Rattle.pgraph.specs.View.{node_of};
-ghost use Rattle.tree_rules.specs.Claim.{IsFeasible, ClaimPasses};
-ghost use Rattle.tree_rules.specs.Past.{IsPastAt};
-ghost use Rattle.tree_rules.specs.Proved.{IsStopped};
-ghost use Rattle.node_evaluation.specs.Looks.{has_bounded};
-ghost use Rattle.node_evaluation.specs.Children.{claim_with};
-ghost use Rattle.abb_search.specs.Searched.{opened, TurnHolds, AreNodesOf};
+ghost use Rattle.flow_evaluator.specs.pns_rules.Shape.{shape_of};
+ghost use Rattle.flow_evaluator.specs.pns_rules.Ends.{IsSound};
+ghost use Rattle.flow_evaluator.specs.pgraph.Tables.{shape};
+ghost use Rattle.flow_evaluator.specs.pgraph.View.{node_of};
+ghost use Rattle.flow_evaluator.specs.tree_rules.Claim.{IsFeasible, ClaimPasses};
+ghost use Rattle.flow_evaluator.specs.tree_rules.Past.{IsPastAt};
+ghost use Rattle.flow_evaluator.specs.tree_rules.Proved.{IsStopped};
+ghost use Rattle.flow_evaluator.specs.node_evaluation.Looks.{has_bounded};
+ghost use Rattle.flow_evaluator.specs.node_evaluation.Children.{claim_with};
+ghost use Rattle.rank_search.specs.abb_search.Searched.{opened, TurnHolds, AreNodesOf};
 
 use crate::workspace::workspace_of;
-use abb_search::{SearchWith, Turn};
-use branch_tree::{Network, Tree};
-use flow_evaluator::FlowEvaluator;
-use pgraph::{Graph, Site};
-use pns_problem::Problem;
+use flow_evaluator::{FlowEvaluator, Graph, Network, Node, Problem, Site, Tree};
+use rank_search::{SearchWith, Turn};
 use std::alloc::{AllocError, Global};
 use std::marker::Model;
-use unit_sets::Node;
 
 /// A search whose nodes are bounded by the simplex method. It always takes an open leaf of least
 /// value.
@@ -30,7 +26,7 @@ pub struct Search<'a> {
 }
 
 impl<'a> Model for Search<'a> {
-    ghost use Rattle.abb_search.specs.Searched.{Searched};
+    ghost use Rattle.rank_search.specs.abb_search.Searched.{Searched};
 
     ghost Value = { Searched };
 

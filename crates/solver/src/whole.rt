@@ -1,23 +1,19 @@
 //! A search over the simplex method that runs to the end.
 ghost use Rattle.std.specs.Prelude.{◌≡◌, ◌≤◌, true, Some};
-ghost use Rattle.pns_rules.specs.Shape.{shape_of};
-ghost use Rattle.pns_rules.specs.Ends.{IsSound};
-ghost use Rattle.pgraph.specs.Tables.{shape};
-ghost use Rattle.pgraph.specs.View.{node_of};
-ghost use Rattle.tree_rules.specs.Claim.{IsFeasible, ClaimPasses};
-ghost use Rattle.node_evaluation.specs.Children.{claim_with};
-ghost use Rattle.abb_search.specs.Answers.{IsAgainst};
-ghost use Rattle.abb_search.specs.Found.{IsFound};
+ghost use Rattle.flow_evaluator.specs.pns_rules.Shape.{shape_of};
+ghost use Rattle.flow_evaluator.specs.pns_rules.Ends.{IsSound};
+ghost use Rattle.flow_evaluator.specs.pgraph.Tables.{shape};
+ghost use Rattle.flow_evaluator.specs.pgraph.View.{node_of};
+ghost use Rattle.flow_evaluator.specs.tree_rules.Claim.{IsFeasible, ClaimPasses};
+ghost use Rattle.flow_evaluator.specs.node_evaluation.Children.{claim_with};
+ghost use Rattle.rank_search.specs.abb_search.Answers.{IsAgainst};
+ghost use Rattle.rank_search.specs.abb_search.Found.{IsFound};
 
 use crate::anew::search_flows;
 use crate::workspace::workspace_of;
-use abb_search::Found;
-use branch_tree::Network;
-use pgraph::{Graph, Site};
-use pns_problem::Problem;
-use pns_io::{Effort, NoWatch, Watch};
+use flow_evaluator::{Graph, Network, Node, Problem, Site};
+use rank_search::{Effort, Found, NoWatch, Watch};
 use std::alloc::Global;
-use unit_sets::Node;
 
 /// Searches the structures of the family of a node as [`search`] does, or as [`search_against`]
 /// if there is a network, and reports how far it is.

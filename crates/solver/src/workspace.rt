@@ -1,12 +1,10 @@
 //! What a search over the simplex method works with.
 ghost use Rattle.std.specs.Prelude.{IfOk};
-ghost use Rattle.pns_rules.specs.Shape.{shape_of};
-ghost use Rattle.neutral_extension.specs.Candidates.{AreMakersOf};
+ghost use Rattle.flow_evaluator.specs.pns_rules.Shape.{shape_of};
+ghost use Rattle.flow_evaluator.specs.neutral_extension.Candidates.{AreMakersOf};
 ghost use Rattle.flow_evaluator.specs.Evaluating.{IsFor};
 
-use flow_evaluator::FlowEvaluator;
-use node_evaluation::Workspace;
-use pgraph::Site;
+use flow_evaluator::{FlowEvaluator, Site, Workspace};
 use std::alloc::{AllocError, Global};
 
 /// What such searches work with.

@@ -1,8 +1,8 @@
 -- A cost whose steps do not overflow does not overflow.
 use Rattle.std.proofs.Common.{◌≡◌, List, [], ◌∷◌, ℤ, pos, Result, Ok, Err, sym, ◌∙◌, subst, rules}
 use Rattle.std.specs.Prelude.{IfOk, OnOk}
-use Rattle.integer_laws.specs.Range.{InRange}
-use Rattle.flow_rules.specs.Steps.{AreInRange, last_from}
+use Rattle.stability_laws.specs.integer_laws.Range.{InRange}
+use Rattle.stability_laws.specs.flow_rules.Steps.{AreInRange, last_from}
 
 last_in_range : (before : ℤ) (zs : List ℤ) → InRange before → AreInRange zs
     → InRange (last_from before zs)

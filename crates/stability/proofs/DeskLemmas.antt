@@ -2,12 +2,14 @@
 use Rattle.std.proofs.Common.{◌≡◌, ℕ, ◌<◌, List, set, ℤ, sym, ap, ◌∙◌, subst}
 use Rattle.std.proofs.Math.ListN.{length-set}
 use Rattle.std.proofs.lemmas.List.{set-set, get_or-set_same}
-use Rattle.problem_rules.specs.Problem.{Problem, Material, OperatingUnit, material_at, unit_at}
-use Rattle.problem_rules.specs.Problem.{no_material, no_unit}
-use Rattle.problem_rules.specs.Validity.{IsValid}
-use Rattle.report_rules.specs.declared.spot.Spot.{Spot}
-use Rattle.report_rules.specs.declared.spot.Spot.TheVariants.{Price, Fix, Proportional}
-use Rattle.report_rules.specs.Spot.{KnowsSpot, valued, IsAllowedValue}
+use Rattle.stability_laws.specs.problem_rules.Problem.{Problem, Material, OperatingUnit}
+use Rattle.stability_laws.specs.problem_rules.Problem.{material_at, unit_at}
+use Rattle.stability_laws.specs.problem_rules.Problem.{no_material, no_unit}
+use Rattle.stability_laws.specs.problem_rules.Validity.{IsValid}
+use Rattle.stability_laws.specs.report_rules.declared.spot.Spot.{Spot}
+use Rattle.stability_laws.specs.report_rules.declared.spot.Spot.TheVariants.{Price, Fix}
+use Rattle.stability_laws.specs.report_rules.declared.spot.Spot.TheVariants.{Proportional}
+use Rattle.stability_laws.specs.report_rules.Spot.{KnowsSpot, valued, IsAllowedValue}
 use Rattle.stability_laws.specs.Laws.{ValuedIsValid}
 
 -- the later one alone is there

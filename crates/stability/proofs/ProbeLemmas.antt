@@ -1,17 +1,16 @@
 -- What a search at one value says.
 use Rattle.std.proofs.Common.{◌⊎◌, inl, inr, ℤ, pos, ◌-ℤ◌, ◌*ℤ◌, ◌≤ℤ◌, ◌<ℤ◌, arith}
 use Rattle.std.proofs.lemmas.Int.{ints}
-use Rattle.integer_laws.proofs.Ring.{ring_z}
-use Rattle.integer_laws.proofs.Order.{mul-le_right, cancel_le, sign_cases}
-use Rattle.problem_rules.specs.Problem.{Problem}
-use Rattle.problem_rules.specs.Validity.{IsValid}
-use Rattle.flow_rules.specs.Net.{net_of}
-use Rattle.flow_rules.specs.Flows.{cost}
-use Rattle.tree_rules.specs.Claim.{Network, IsSized, network, CostOver}
-use Rattle.tree_rules.specs.Accepted.{Tree, first_node}
-use Rattle.tree_laws.specs.Laws.{AcceptedIsOptimal, AcceptedHasFlows}
-use Rattle.tree_rules.specs.Proved.{IsProved}
-use Rattle.report_rules.specs.Range.{IsLeast, IsCheaper}
+use Rattle.stability_laws.proofs.integer_laws.Cited.{ring_z, mul-le_right, cancel_le, sign_cases}
+use Rattle.stability_laws.specs.problem_rules.Problem.{Problem}
+use Rattle.stability_laws.specs.problem_rules.Validity.{IsValid}
+use Rattle.stability_laws.specs.flow_rules.Net.{net_of}
+use Rattle.stability_laws.specs.flow_rules.Flows.{cost}
+use Rattle.stability_laws.specs.tree_rules.Claim.{Network, IsSized, network, CostOver}
+use Rattle.stability_laws.specs.tree_rules.Accepted.{Tree, first_node}
+use Rattle.solver.specs.tree_laws.Laws.{AcceptedIsOptimal, AcceptedHasFlows}
+use Rattle.stability_laws.specs.tree_rules.Proved.{IsProved}
+use Rattle.stability_laws.specs.report_rules.Range.{IsLeast, IsCheaper}
 
 -- a over b is at most c over d, which is at most e over f
 no_more_trans : (a b c d e f : ℤ) → pos 0 ≤ℤ b → pos 1 ≤ℤ d → pos 0 ≤ℤ f → (a *ℤ d) ≤ℤ (c *ℤ b)

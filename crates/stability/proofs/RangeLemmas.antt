@@ -2,23 +2,25 @@
 use Rattle.std.proofs.Common.{◌≡◌, ℕ, ◌+◌, ◌/◌, ◌<◌, ◌≤◌, inl, inr, ℤ, pos, ◌+ℤ◌, ◌-ℤ◌, ◌*ℤ◌, Some}
 use Rattle.std.proofs.Common.{None, refl, sym, ap, ◌∙◌, subst, arith}
 use Rattle.std.proofs.lemmas.Int.{ints}
-use Rattle.problem_rules.specs.Problem.{Problem}
-use Rattle.problem_rules.specs.Validity.{IsValid}
-use Rattle.number_sets.specs.Sets.{has}
-use Rattle.flow_rules.specs.Net.{net_of}
-use Rattle.flow_rules.specs.Flows.{cost}
-use Rattle.tree_rules.specs.Claim.{Network, size_in, IsFeasible}
-use Rattle.tree_rules.specs.Accepted.{first_node}
-use Rattle.abb_search.specs.Found.{IsFound}
-use Rattle.abb_search.specs.declared.outcome.Found.TheVariants as founds
-use Rattle.report_rules.specs.declared.spot.Spot.{Spot}
-use Rattle.report_rules.specs.declared.side.Side.{Side}
-use Rattle.report_rules.specs.declared.side.Side.TheVariants.{Below, Above}
-use Rattle.report_rules.specs.Spot.{KnowsSpot, value_at, valued, IsAllowedValue, value_on}
-use Rattle.report_rules.specs.Spot.{limit_on}
-use Rattle.report_rules.specs.Range.{cost_at, IsBestAt, IsCheaper, IsCheaperAt, beyond, IsRange}
-use Rattle.report_rules.specs.Range.{IsHalfProved, MayWant, IsPastCost}
-use Rattle.report_rules.specs.Rise.{least_rise}
+use Rattle.stability_laws.specs.problem_rules.Problem.{Problem}
+use Rattle.stability_laws.specs.problem_rules.Validity.{IsValid}
+use Rattle.stability_laws.specs.number_sets.Sets.{has}
+use Rattle.stability_laws.specs.flow_rules.Net.{net_of}
+use Rattle.stability_laws.specs.flow_rules.Flows.{cost}
+use Rattle.stability_laws.specs.tree_rules.Claim.{Network, size_in, IsFeasible}
+use Rattle.stability_laws.specs.tree_rules.Accepted.{first_node}
+use Rattle.solver.specs.abb_search.Found.{IsFound}
+use Rattle.solver.specs.abb_search.declared.outcome.Found.TheVariants as founds
+use Rattle.stability_laws.specs.report_rules.declared.spot.Spot.{Spot}
+use Rattle.stability_laws.specs.report_rules.declared.side.Side.{Side}
+use Rattle.stability_laws.specs.report_rules.declared.side.Side.TheVariants.{Below, Above}
+use Rattle.stability_laws.specs.report_rules.Spot.{KnowsSpot, value_at, valued, IsAllowedValue}
+use Rattle.stability_laws.specs.report_rules.Spot.{value_on}
+use Rattle.stability_laws.specs.report_rules.Spot.{limit_on}
+use Rattle.stability_laws.specs.report_rules.Range.{cost_at, IsBestAt, IsCheaper, IsCheaperAt}
+use Rattle.stability_laws.specs.report_rules.Range.{beyond, IsRange}
+use Rattle.stability_laws.specs.report_rules.Range.{IsHalfProved, MayWant, IsPastCost}
+use Rattle.stability_laws.specs.report_rules.Rise.{least_rise}
 use Rattle.stability_laws.specs.Laws.{ValuedIsSame, BestBetween, BestAway}
 use Rattle.stability.specs.Case.{Case}
 use Rattle.stability.specs.Refusal.{IsSearchStop, IsStopAt, IsRefusal}

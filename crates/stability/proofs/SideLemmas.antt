@@ -1,11 +1,11 @@
 -- Values on a side of the present one.
 use Rattle.std.proofs.Common.{◌≡◌, ℕ, ◌+◌, ◌<◌, ◌≤◌, ℤ, arith}
 use Rattle.std.proofs.lemmas.Int.{ints}
-use Rattle.report_rules.specs.declared.spot.Spot.{Spot}
-use Rattle.report_rules.specs.declared.side.Side.{Side}
-use Rattle.report_rules.specs.declared.side.Side.TheVariants.{Below, Above}
-use Rattle.report_rules.specs.Spot.{IsAllowedValue, value_on, limit_on}
-use Rattle.report_rules.specs.Range.{beyond}
+use Rattle.stability_laws.specs.report_rules.declared.spot.Spot.{Spot}
+use Rattle.stability_laws.specs.report_rules.declared.side.Side.{Side}
+use Rattle.stability_laws.specs.report_rules.declared.side.Side.TheVariants.{Below, Above}
+use Rattle.stability_laws.specs.report_rules.Spot.{IsAllowedValue, value_on, limit_on}
+use Rattle.stability_laws.specs.report_rules.Range.{beyond}
 
 -- what lies nearer than an allowed value is allowed
 pub nearer_allowed : (spot : Spot) (side : Side) (present : ℤ) (a b : ℕ)

@@ -1,10 +1,10 @@
 -- A network and a spot of a problem, with what is kept of them while a range is sought.
 use Rattle.std.specs.Prelude.{◌≡◌, ◌≤◌, ℕ, ℤ}
-use Rattle.problem_rules.specs.Problem.{Problem}
-use Rattle.pns_rules.specs.Shape.{Shape, shape_of}
-use Rattle.tree_rules.specs.Claim.{Network, IsFeasible}
-use Rattle.report_rules.specs.declared.spot.Spot.{Spot}
-use Rattle.report_rules.specs.Spot.{KnowsSpot, value_at, IsAllowedValue}
+use Rattle.stability_laws.specs.problem_rules.Problem.{Problem}
+use Rattle.stability_laws.specs.pns_rules.Shape.{Shape, shape_of}
+use Rattle.stability_laws.specs.tree_rules.Claim.{Network, IsFeasible}
+use Rattle.stability_laws.specs.report_rules.declared.spot.Spot.{Spot}
+use Rattle.stability_laws.specs.report_rules.Spot.{KnowsSpot, value_at, IsAllowedValue}
 
 pub record Case : Type 0 where
   pub problem : Problem

@@ -1,10 +1,10 @@
 -- The problem of a case with one value after the other in the spot, and what the searches over it
 -- share.
 use Rattle.std.specs.Prelude.{◌≡◌, ℕ, ℤ, List}
-use Rattle.problem_rules.specs.Problem.{Problem}
-use Rattle.pns_rules.specs.Shape.{shape_of}
-use Rattle.neutral_extension.specs.Candidates.{AreMakersOf}
-use Rattle.report_rules.specs.Spot.{valued}
+use Rattle.stability_laws.specs.problem_rules.Problem.{Problem}
+use Rattle.stability_laws.specs.pns_rules.Shape.{shape_of}
+use Rattle.solver.specs.neutral_extension.Candidates.{AreMakersOf}
+use Rattle.stability_laws.specs.report_rules.Spot.{valued}
 use Rattle.stability.specs.Case.{Case}
 
 pub record Desk : Type 0 where

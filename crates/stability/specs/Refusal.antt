@@ -1,14 +1,15 @@
 -- What each refusal of a range means.
 use Rattle.std.specs.Prelude.{◌≡◌, ℕ, ℤ, Option, Some, None}
-use Rattle.problem_rules.specs.Problem.{Problem}
-use Rattle.tree_rules.specs.Claim.{Network}
-use Rattle.tree_rules.specs.Accepted.{first_node}
-use Rattle.abb_search.specs.Found.{IsFound}
-use Rattle.abb_search.specs.declared.outcome.Found.TheVariants as founds
-use Rattle.report_rules.specs.declared.spot.Spot.{Spot}
-use Rattle.report_rules.specs.Spot.{valued, IsAllowedValue}
-use Rattle.report_rules.specs.Range.{IsBestAt, IsCheaper, IsCheaperAt, IsHalfProved, MayWant}
-use Rattle.report_rules.specs.Range.{IsPastCost}
+use Rattle.stability_laws.specs.problem_rules.Problem.{Problem}
+use Rattle.stability_laws.specs.tree_rules.Claim.{Network}
+use Rattle.stability_laws.specs.tree_rules.Accepted.{first_node}
+use Rattle.solver.specs.abb_search.Found.{IsFound}
+use Rattle.solver.specs.abb_search.declared.outcome.Found.TheVariants as founds
+use Rattle.stability_laws.specs.report_rules.declared.spot.Spot.{Spot}
+use Rattle.stability_laws.specs.report_rules.Spot.{valued, IsAllowedValue}
+use Rattle.stability_laws.specs.report_rules.Range.{IsBestAt, IsCheaper, IsCheaperAt, IsHalfProved}
+use Rattle.stability_laws.specs.report_rules.Range.{MayWant}
+use Rattle.stability_laws.specs.report_rules.Range.{IsPastCost}
 use Rattle.stability.specs.declared.outcome.RangeFault.{RangeFault}
 use Rattle.stability.specs.declared.outcome.RangeFault.TheVariants.{NotBest, Spent, Past, PastCost}
 use Rattle.stability.specs.declared.outcome.RangeFault.TheVariants.{Memory}

@@ -1,8 +1,8 @@
 -- What the network's flows cost so far away on a side.
 use Rattle.std.specs.Prelude.{◌+ℤ◌, ◌*ℤ◌, ℕ, ℤ}
-use Rattle.report_rules.specs.declared.side.Side.{Side}
-use Rattle.report_rules.specs.Range.{cost_at}
-use Rattle.report_rules.specs.Rise.{least_rise}
+use Rattle.stability_laws.specs.report_rules.declared.side.Side.{Side}
+use Rattle.stability_laws.specs.report_rules.Range.{cost_at}
+use Rattle.stability_laws.specs.report_rules.Rise.{least_rise}
 use Rattle.stability.specs.Case.{Case}
 use Rattle.stability.specs.Side.{there}
 

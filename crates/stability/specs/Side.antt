@@ -1,8 +1,8 @@
 -- The end of a range on one side, while it is sought.
 use Rattle.std.specs.Prelude.{◌≡◌, ◌+◌, ◌/◌, ◌≤◌, ◌<◌, ℕ, ℤ}
-use Rattle.report_rules.specs.declared.side.Side.{Side}
-use Rattle.report_rules.specs.Spot.{KnowsSpot, value_at, IsAllowedValue, value_on}
-use Rattle.report_rules.specs.Range.{IsBestAt, IsCheaperAt, EndsAt}
+use Rattle.stability_laws.specs.report_rules.declared.side.Side.{Side}
+use Rattle.stability_laws.specs.report_rules.Spot.{KnowsSpot, value_at, IsAllowedValue, value_on}
+use Rattle.stability_laws.specs.report_rules.Range.{IsBestAt, IsCheaperAt, EndsAt}
 use Rattle.stability.specs.Case.{Case}
 use Rattle.stability.specs.Refusal.{IsStopAt}
 use Rattle.stability.specs.declared.outcome.RangeFault.TheVariants.{Memory}

@@ -1,19 +1,16 @@
 //! The range.
 ghost use Rattle.std.specs.Prelude.{◌≡◌, ◌≤◌, IfOk, IfErr};
-ghost use Rattle.tree_rules.specs.Claim.{IsFeasible};
-ghost use Rattle.report_rules.specs.Spot.{KnowsSpot, value_at};
-ghost use Rattle.report_rules.specs.Range.{IsBestAt, IsRange};
+ghost use Rattle.stability_laws.specs.tree_rules.Claim.{IsFeasible};
+ghost use Rattle.stability_laws.specs.report_rules.Spot.{KnowsSpot, value_at};
+ghost use Rattle.stability_laws.specs.report_rules.Range.{IsBestAt, IsRange};
 ghost use Rattle.stability.specs.Desk.{IsDesk};
 ghost use Rattle.stability.specs.Refusal.{IsRefusal};
 
 use crate::case::Case;
 use crate::desk::Desk;
 use crate::outcome::{Range, RangeFault};
-use branch_tree::Network;
-use pgraph::Site;
-use pns_io::{Effort, Watch};
-use stability_laws::{best_between, present_stays};
-use report_rules::{Side, Spot};
+use solver::{Effort, Network, Site, Watch};
+use stability_laws::{Side, Spot, best_between, present_stays};
 use std::alloc::Global;
 
 impl<'a> Case<'a> {

@@ -1,18 +1,16 @@
 //! A network and a spot of a problem, and the values on both sides of the present one.
 ghost use Rattle.std.specs.Prelude.{◌≡◌, ◌≤◌};
-ghost use Rattle.problem_rules.specs.Validity.{IsValid};
-ghost use Rattle.pns_rules.specs.Shape.{shape_of};
-ghost use Rattle.pgraph.specs.Tables.{shape};
-ghost use Rattle.tree_rules.specs.Claim.{IsFeasible};
-ghost use Rattle.report_rules.specs.Spot.{KnowsSpot, value_at, IsAllowedValue, value_on};
-ghost use Rattle.report_rules.specs.Spot.{limit_on, least_value, greatest_value};
+ghost use Rattle.stability_laws.specs.problem_rules.Validity.{IsValid};
+ghost use Rattle.stability_laws.specs.pns_rules.Shape.{shape_of};
+ghost use Rattle.solver.specs.pgraph.Tables.{shape};
+ghost use Rattle.stability_laws.specs.tree_rules.Claim.{IsFeasible};
+ghost use Rattle.stability_laws.specs.report_rules.Spot.{KnowsSpot, value_at, IsAllowedValue};
+ghost use Rattle.stability_laws.specs.report_rules.Spot.{value_on};
+ghost use Rattle.stability_laws.specs.report_rules.Spot.{limit_on, least_value, greatest_value};
 
 use crate::setting::value_at;
-use branch_tree::Network;
-use pgraph::{Graph, Site};
-use pns_problem::Problem;
-use stability_laws::present_stays;
-use report_rules::{Side, Spot};
+use solver::{Graph, Network, Problem, Site};
+use stability_laws::{Side, Spot, present_stays};
 use std::alloc::Global;
 use std::marker::Model;
 
@@ -29,7 +27,7 @@ pub(crate) struct Case<'a> {
 }
 
 impl<'a> Model for Case<'a> {
-    ghost use Rattle.pgraph.specs.Tables.{shape};
+    ghost use Rattle.solver.specs.pgraph.Tables.{shape};
     ghost use Rattle.stability.specs.Case as cases;
     ghost use Rattle.stability.specs.Case.{IsCase};
 

@@ -1,20 +1,17 @@
 //! What the flows of a network cost in a problem.
 ghost use Rattle.std.specs.Prelude.{◌≡◌, ◌<◌, ℕ, true, IfOk, IfErr, OnOk};
-ghost use Rattle.number_sets.specs.Sets.{has};
-ghost use Rattle.integer_laws.specs.Range.{InRange};
-ghost use Rattle.pns_rules.specs.Shape.{shape_of};
-ghost use Rattle.pgraph.specs.Tables.{shape};
-ghost use Rattle.flow_rules.specs.Net.{net_of};
-ghost use Rattle.flow_rules.specs.Flows.{cost};
-ghost use Rattle.flow_rules.specs.Steps.{AreInRange, IsFirstPast};
-ghost use Rattle.flow_rules.specs.CostSteps.{cost_steps};
-ghost use Rattle.tree_rules.specs.Claim.{size_in};
+ghost use Rattle.stability_laws.specs.number_sets.Sets.{has};
+ghost use Rattle.stability_laws.specs.integer_laws.Range.{InRange};
+ghost use Rattle.stability_laws.specs.pns_rules.Shape.{shape_of};
+ghost use Rattle.solver.specs.pgraph.Tables.{shape};
+ghost use Rattle.stability_laws.specs.flow_rules.Net.{net_of};
+ghost use Rattle.stability_laws.specs.flow_rules.Flows.{cost};
+ghost use Rattle.stability_laws.specs.flow_rules.Steps.{AreInRange, IsFirstPast};
+ghost use Rattle.stability_laws.specs.flow_rules.CostSteps.{cost_steps};
+ghost use Rattle.stability_laws.specs.tree_rules.Claim.{size_in};
 
-use branch_tree::Network;
-use flow_program::{PastSum, cost_of};
-use flow_rules::sums_are_last;
-use pgraph::Graph;
-use pns_problem::Problem;
+use solver::{Graph, Network, PastSum, Problem, cost_of};
+use stability_laws::sums_are_last;
 use std::alloc::{AllocError, Global};
 
 /// What the network's flows cost in the problem, over its `d`; or the first step of this cost that

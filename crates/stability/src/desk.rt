@@ -1,28 +1,25 @@
 //! The problem of a case with one value after the other in the spot, and what the searches over it
 //! share.
 ghost use Rattle.std.specs.Prelude.{◌≡◌, ◌≤◌, IfOk, Some};
-ghost use Rattle.pns_rules.specs.Shape.{shape_of};
-ghost use Rattle.pgraph.specs.Tables.{shape};
-ghost use Rattle.neutral_extension.specs.Candidates.{AreMakersOf};
-ghost use Rattle.tree_rules.specs.Accepted.{first_node};
-ghost use Rattle.tree_rules.specs.Claim.{IsFeasible};
-ghost use Rattle.abb_search.specs.Found.{IsFound};
-ghost use Rattle.abb_search.specs.Answers.{IsAgainst};
-ghost use Rattle.report_rules.specs.Spot.{valued, IsAllowedValue};
+ghost use Rattle.stability_laws.specs.pns_rules.Shape.{shape_of};
+ghost use Rattle.solver.specs.pgraph.Tables.{shape};
+ghost use Rattle.solver.specs.neutral_extension.Candidates.{AreMakersOf};
+ghost use Rattle.stability_laws.specs.tree_rules.Accepted.{first_node};
+ghost use Rattle.stability_laws.specs.tree_rules.Claim.{IsFeasible};
+ghost use Rattle.solver.specs.abb_search.Found.{IsFound};
+ghost use Rattle.solver.specs.abb_search.Answers.{IsAgainst};
+ghost use Rattle.stability_laws.specs.report_rules.Spot.{valued, IsAllowedValue};
 ghost use Rattle.stability.specs.Desk.{IsDesk};
 
 use crate::case::Case;
 use crate::setting::set;
-use abb_search::Found;
-use branch_tree::Network;
-use pgraph::{Graph, Site};
-use pns_problem::Problem;
-use pns_io::{Effort, Watch};
-use solver::{FlowWorkspace, search_flows, workspace_of};
+use solver::{
+    Effort, FlowWorkspace, Found, Graph, Network, Node, Problem, Site, UnitSet, Watch,
+    search_flows, workspace_of,
+};
 use stability_laws::{present_stays, valued_is_valid};
 use std::alloc::{AllocError, Global};
 use std::marker::Model;
-use unit_sets::{Node, UnitSet};
 
 /// A copy of a case's problem, of which only the spot changes, with what its searches keep, and
 /// with who watches them.

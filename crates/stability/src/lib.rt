@@ -29,4 +29,8 @@ mod side;
 pub use answer::range;
 pub use outcome::{Range, RangeFault};
 pub use setting::{value_at, valued};
-pub use report_rules::Spot;
+pub use solver::{
+    Claim, Effort, Found, Graph, Network, Outputs, Problem, Shelf, Sink, Site, Tree, Watch,
+    accepted_is_optimal, amount_text,
+};
+pub use stability_laws::{Side, Sort, Spot, SpotKind, structures_stay, valued_is_valid};

@@ -1,22 +1,17 @@
 //! The value at which two networks cost the same, as a guess: nothing is promised of it, so a
 //! search looks there.
 ghost use Rattle.std.specs.Prelude.{◌≡◌, ◌<◌, ℕ, true};
-ghost use Rattle.number_sets.specs.Sets.{has};
-ghost use Rattle.pns_rules.specs.Shape.{shape_of};
-ghost use Rattle.pgraph.specs.Tables.{shape};
-ghost use Rattle.report_rules.specs.Spot.{value_at, value_on, IsAllowedValue};
+ghost use Rattle.stability_laws.specs.number_sets.Sets.{has};
+ghost use Rattle.stability_laws.specs.pns_rules.Shape.{shape_of};
+ghost use Rattle.solver.specs.pgraph.Tables.{shape};
+ghost use Rattle.stability_laws.specs.report_rules.Spot.{value_at, value_on, IsAllowedValue};
 ghost use Rattle.stability.specs.Desk.{IsDesk};
 
 use crate::case::Case;
 use crate::costs::cost_in;
 use crate::desk::Desk;
-use branch_tree::Network;
-use exact_numbers::{checked_difference, checked_product, lowest_terms};
-use pgraph::Graph;
-use pns_problem::Problem;
-use pns_io::Watch;
-use stability_laws::structures_stay;
-use report_rules::Side;
+use solver::{Graph, Network, Problem, Watch, checked_difference, checked_product, lowest_terms};
+use stability_laws::{Side, structures_stay};
 
 /// How much more the second network costs in the problem than the first, over a common denominator.
 fn lead(problem: &Problem, graph: &Graph, network: &Network, other: &Network) -> Option<i128>

@@ -1,11 +1,12 @@
 //! A search at one value: is the network optimal there, or another one cheaper?
 ghost use Rattle.std.specs.Prelude.{◌≡◌, ◌≤◌, ◌≤ℤ◌, ◌<ℤ◌, ◌*ℤ◌, ◌↔◌, pos, IsTrue, IfOk, IfErr};
 ghost use Rattle.std.specs.Prelude.{Some};
-ghost use Rattle.pns_rules.specs.Shape.{shape_of};
-ghost use Rattle.neutral_extension.specs.Candidates.{AreMakersOf};
-ghost use Rattle.tree_rules.specs.Claim.{IsFeasible};
-ghost use Rattle.report_rules.specs.Spot.{value_at, valued, value_on, IsAllowedValue};
-ghost use Rattle.report_rules.specs.Range.{repriced};
+ghost use Rattle.stability_laws.specs.pns_rules.Shape.{shape_of};
+ghost use Rattle.solver.specs.neutral_extension.Candidates.{AreMakersOf};
+ghost use Rattle.stability_laws.specs.tree_rules.Claim.{IsFeasible};
+ghost use Rattle.stability_laws.specs.report_rules.Spot.{value_at, valued, value_on};
+ghost use Rattle.stability_laws.specs.report_rules.Spot.{IsAllowedValue};
+ghost use Rattle.stability_laws.specs.report_rules.Range.{repriced};
 ghost use Rattle.stability.specs.Desk.{IsDesk};
 ghost use Rattle.stability.specs.Refusal.{IsProbed, IsSearchStop, IsStopAt};
 
@@ -13,15 +14,9 @@ use crate::case::Case;
 use crate::costs::{at_cost, cost_in};
 use crate::desk::Desk;
 use crate::outcome::RangeFault;
-use abb_search::Found;
-use branch_tree::Network;
-use exact_numbers::CostOver;
-use pns_problem::Problem;
-use pns_io::Watch;
-use stability_laws::{present_stays, structures_stay};
-use report_rules::Side;
+use solver::{CostOver, Found, Network, Problem, Watch, accepted_has_flows, accepted_is_optimal};
+use stability_laws::{Side, present_stays, structures_stay};
 use std::alloc::AllocError;
-use tree_laws::{accepted_has_flows, accepted_is_optimal};
 
 /// Whether the network costs less than this much.
 fn is_cheaper(much: &CostOver, network: &Network) -> bool

@@ -2,13 +2,13 @@
 //! search is needed there.
 ghost use Rattle.std.specs.Prelude.{◌≡◌, ◌≤◌, ◌<◌, ◌^◌, ◌*ℤ◌, neg_ℤ, true, length, unsigned_abs};
 ghost use Rattle.std.specs.Prelude.{IfSome};
-ghost use Rattle.problem_rules.specs.Problem.{unit_at};
-ghost use Rattle.problem_rules.specs.WellFormed.{IsInRange};
-ghost use Rattle.flow_rules.specs.Net.{million};
-ghost use Rattle.report_rules.specs.declared.side.Side.TheVariants.{Below, Above};
-ghost use Rattle.report_rules.specs.Spot.{KnowsSpot, valued, IsAllowedValue};
-ghost use Rattle.report_rules.specs.Range.{cost_at};
-ghost use Rattle.report_rules.specs.Rise.{least_left, most_left, least_rise};
+ghost use Rattle.stability_laws.specs.problem_rules.Problem.{unit_at};
+ghost use Rattle.stability_laws.specs.problem_rules.WellFormed.{IsInRange};
+ghost use Rattle.stability_laws.specs.flow_rules.Net.{million};
+ghost use Rattle.stability_laws.specs.report_rules.declared.side.Side.TheVariants.{Below, Above};
+ghost use Rattle.stability_laws.specs.report_rules.Spot.{KnowsSpot, valued, IsAllowedValue};
+ghost use Rattle.stability_laws.specs.report_rules.Range.{cost_at};
+ghost use Rattle.stability_laws.specs.report_rules.Rise.{least_left, most_left, least_rise};
 ghost use Rattle.stability.specs.Desk.{IsDesk};
 ghost use Rattle.stability.specs.Rise.{cost_there, least_cost};
 ghost use Rattle.stability.specs.Side.{there};
@@ -16,11 +16,8 @@ ghost use Rattle.stability.specs.Side.{there};
 use crate::case::Case;
 use crate::costs::cost_in;
 use crate::desk::Desk;
-use exact_numbers::{checked_product, checked_sum};
-use pns_problem::{Kind, Problem};
-use pns_io::Watch;
-use stability_laws::structures_stay;
-use report_rules::{Side, Spot};
+use solver::{Kind, Problem, Watch, checked_product, checked_sum};
+use stability_laws::{Side, Spot, structures_stay};
 
 /// An amount with the other sign.
 fn negated(amount: i64) -> i64

@@ -1,11 +1,11 @@
 //! The problem with another value in the spot.
 ghost use Rattle.std.specs.Prelude.{◌≡◌, IfOk};
-ghost use Rattle.problem_rules.specs.Validity.{IsValid};
-ghost use Rattle.report_rules.specs.Spot.{KnowsSpot, value_at, valued, IsAllowedValue};
+ghost use Rattle.stability_laws.specs.problem_rules.Validity.{IsValid};
+ghost use Rattle.stability_laws.specs.report_rules.Spot.{KnowsSpot, value_at, valued};
+ghost use Rattle.stability_laws.specs.report_rules.Spot.{IsAllowedValue};
 
-use pns_problem::Problem;
-use stability_laws::valued_is_valid;
-use report_rules::Spot;
+use solver::Problem;
+use stability_laws::{Spot, valued_is_valid};
 use std::alloc::{AllocError, Global};
 
 /// Sets the value in the spot, in millionths. It takes no memory.

@@ -1,7 +1,7 @@
 //! The end of the range on one side of the present value.
 ghost use Rattle.std.specs.Prelude.{◌≡◌, ◌+◌, ◌-◌, ◌<◌, ◌≤◌, true, false, IfOk, IfErr};
-ghost use Rattle.report_rules.specs.Spot.{value_at};
-ghost use Rattle.report_rules.specs.Range.{IsBestAt};
+ghost use Rattle.stability_laws.specs.report_rules.Spot.{value_at};
+ghost use Rattle.stability_laws.specs.report_rules.Range.{IsBestAt};
 ghost use Rattle.stability.specs.Desk.{IsDesk};
 ghost use Rattle.stability.specs.Refusal.{IsRefusal};
 ghost use Rattle.stability.specs.Side.{IsBracket, IsSettled, IsEnd};
@@ -9,10 +9,8 @@ ghost use Rattle.stability.specs.Side.{IsBracket, IsSettled, IsEnd};
 use crate::case::Case;
 use crate::desk::Desk;
 use crate::outcome::RangeFault;
-use branch_tree::Network;
-use pns_io::Watch;
-use stability_laws::{best_away, best_between};
-use report_rules::Side;
+use solver::{Network, Watch};
+use stability_laws::{Side, best_away, best_between};
 
 /// What is found at a value: a network that is cheaper there, or no answer.
 #[derive(Drop)]

@@ -3,3 +3,4 @@ mod Printed
 mod RangeRows
 mod Stopped
 mod Told
+pub use Rattle.stability.proofs.stability_laws as stability_laws

@@ -6,14 +6,15 @@ use Rattle.std.specs.Str.{bytes_eq}
 use Rattle.std.specs.Prelude.{option_map}
 use Rattle.std.proofs.lemmas.List.{length-map}
 use Rattle.std.proofs.lemmas.List.Quantifiers.{position-Some}
-use Rattle.problem_rules.specs.Problem.{Problem, Material, OperatingUnit, material_names}
-use Rattle.problem_rules.specs.Problem.{unit_names}
-use Rattle.report_rules.specs.declared.spot.Spot.{Spot}
-use Rattle.report_rules.specs.declared.spot.Spot.TheVariants as spots
-use Rattle.report_rules.specs.declared.spot.SpotKind.{SpotKind}
-use Rattle.report_rules.specs.declared.spot.SpotKind.TheVariants.{Price, Fix, Proportional}
-use Rattle.report_rules.specs.Spot.{KnowsSpot}
-use Rattle.studio_rules.specs.Stable.{spot_named}
+use Rattle.stability.specs.problem_rules.Problem.{Problem, Material, OperatingUnit, material_names}
+use Rattle.stability.specs.problem_rules.Problem.{unit_names}
+use Rattle.stability.specs.report_rules.declared.spot.Spot.{Spot}
+use Rattle.stability.specs.report_rules.declared.spot.Spot.TheVariants as spots
+use Rattle.stability.specs.report_rules.declared.spot.SpotKind.{SpotKind}
+use Rattle.stability.specs.report_rules.declared.spot.SpotKind.TheVariants.{Price, Fix}
+use Rattle.stability.specs.report_rules.declared.spot.SpotKind.TheVariants.{Proportional}
+use Rattle.stability.specs.report_rules.Spot.{KnowsSpot}
+use Rattle.network_commands.specs.studio_rules.Stable.{spot_named}
 
 option_known : (P : Spot → Type 0) (make : ℕ → Spot) (o : Option ℕ)
     → ((x : ℕ) → o ≡ Some x → P (make x)) → IfSome (option_map make o) P

@@ -1,13 +1,14 @@
 -- Lines that are printed.
 use Rattle.std.proofs.Common.{◌≡◌, List, Ok, Err, refl}
-use Rattle.tree_text.specs.declared.fault.PrintFault.TheVariants as faults
-use Rattle.text_rules.specs.State.{OutputsState}
-use Rattle.tree_text_rules.specs.Line.{Token}
-use Rattle.tree_text.specs.Prints.{Prints}
-use Rattle.studio_rules.specs.Printed.{spelled, OneAnswer}
-use Rattle.studio_rules.specs.Ending.{Ends, Tells}
-use Rattle.studio_rules.specs.declared.status.Status.TheVariants.{NotBest, WriteFault}
-use Rattle.command_files.proofs.Printing.{printed_whole, printed_front}
+use Rattle.network_commands.specs.tree_text.declared.fault.PrintFault.TheVariants as faults
+use Rattle.stability.specs.text_rules.State.{OutputsState}
+use Rattle.stability.specs.tree_text_rules.Line.{Token}
+use Rattle.network_commands.specs.tree_text.Prints.{Prints}
+use Rattle.network_commands.specs.studio_rules.Printed.{spelled, OneAnswer}
+use Rattle.network_commands.specs.studio_rules.Ending.{Ends, Tells}
+use Rattle.network_commands.specs.studio_rules.declared.status.Status.TheVariants.{NotBest}
+use Rattle.network_commands.specs.studio_rules.declared.status.Status.TheVariants.{WriteFault}
+use Rattle.network_commands.proofs.command_files.Cited.{printed_whole, printed_front}
 
 -- the text of a network that is not the best, as of other lines
 pub not_best_whole : (lines : List (List Token)) (old new : OutputsState) → new.err ≡ old.err

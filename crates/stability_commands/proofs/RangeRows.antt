@@ -2,23 +2,24 @@
 use Rattle.std.proofs.Common.{◌≡◌, ◌<◌, ◌∙◌, ℕ, true, List, [], ◌∷◌, ◌++◌, map, length, refl, sym}
 use Rattle.std.proofs.Common.{ap, subst, append_assoc, append-nil}
 use Rattle.std.specs.Prelude.{flat_map}
-use Rattle.number_sets.specs.Sets.{has}
-use Rattle.problem_rules.specs.Each.{Each}
-use Rattle.problem_rules.specs.Problem.{Problem}
-use Rattle.flow_rules.specs.Net.{net_of, materials_of}
-use Rattle.flow_program.proofs.WalkLemmas.{has-first, has-rest}
-use Rattle.tree_rules.specs.Claim.{Network, IsFeasible}
-use Rattle.report_amounts.proofs.Known.{material_known}
-use Rattle.report_rules.specs.declared.spot.Spot.{Spot}
-use Rattle.report_rules.specs.declared.spot.Spot.TheVariants.{Price}
-use Rattle.report_rules.specs.Spot.{KnowsSpot}
-use Rattle.report_rules.specs.Range.{IsCheaper}
-use Rattle.studio_rules.specs.Printed.{OneAnswer}
-use Rattle.studio_rules.specs.Stable.{not_best_lines}
-use Rattle.studio_rules.specs.StableTable.{cost_spots, spots_of, IsRangeRow, AreRangeRows}
-use Rattle.studio_rules.specs.StableTable.{RangesWork}
-use Rattle.studio_rules.specs.declared.status.Status.{Status}
-use Rattle.studio_rules.specs.declared.status.Status.TheVariants.{NotBest}
+use Rattle.stability.specs.number_sets.Sets.{has}
+use Rattle.stability.specs.problem_rules.Each.{Each}
+use Rattle.stability.specs.problem_rules.Problem.{Problem}
+use Rattle.stability.specs.flow_rules.Net.{net_of, materials_of}
+use Rattle.stability.proofs.flow_program.Cited.{has-first, has-rest}
+use Rattle.stability.specs.tree_rules.Claim.{Network, IsFeasible}
+use Rattle.network_commands.proofs.report_amounts.Cited.{material_known}
+use Rattle.stability.specs.report_rules.declared.spot.Spot.{Spot}
+use Rattle.stability.specs.report_rules.declared.spot.Spot.TheVariants.{Price}
+use Rattle.stability.specs.report_rules.Spot.{KnowsSpot}
+use Rattle.stability.specs.report_rules.Range.{IsCheaper}
+use Rattle.network_commands.specs.studio_rules.Printed.{OneAnswer}
+use Rattle.network_commands.specs.studio_rules.Stable.{not_best_lines}
+use Rattle.network_commands.specs.studio_rules.StableTable.{cost_spots, spots_of, IsRangeRow}
+use Rattle.network_commands.specs.studio_rules.StableTable.{AreRangeRows}
+use Rattle.network_commands.specs.studio_rules.StableTable.{RangesWork}
+use Rattle.network_commands.specs.studio_rules.declared.status.Status.{Status}
+use Rattle.network_commands.specs.studio_rules.declared.status.Status.TheVariants.{NotBest}
 
 -- ---- the spots
 

@@ -1,28 +1,28 @@
 -- A range that was not found: what stopped its search.
 use Rattle.std.proofs.Common.{◌≡◌, ℕ, ℤ, List, Option, codes, refl, inl, inr}
-use Rattle.problem_rules.specs.Problem.{Problem}
-use Rattle.problem_rules.specs.Validity.{IsValid}
-use Rattle.flow_rules.specs.declared.place.Column.{Column}
-use Rattle.flow_rules.specs.declared.place.Place.{Place}
-use Rattle.tree_rules.specs.Claim.{Network}
-use Rattle.tree_rules.specs.Accepted.{Tree, first_node}
-use Rattle.tree_rules.specs.Tail as tails
-use Rattle.tree_laws.specs.Laws.{AcceptedIsOptimal}
-use Rattle.tree_text_rules.specs.Read.{Certificate}
-use Rattle.node_evaluation.specs.Children.{claim_with}
-use Rattle.abb_search.specs.declared.outcome.Found.{Found}
-use Rattle.abb_search.specs.declared.outcome.Found.TheVariants as founds
-use Rattle.abb_search.specs.Found.{IsFound}
-use Rattle.searches.proofs.FoundTexts.{holds}
-use Rattle.report_rules.specs.declared.spot.Spot.{Spot}
-use Rattle.report_rules.specs.Spot.{KnowsSpot, valued, IsAllowedValue}
-use Rattle.report_rules.specs.Range.{MayWant, IsHalfProved, IsPastCost}
-use Rattle.stability_laws.specs.Laws.{ValuedIsValid}
+use Rattle.stability.specs.problem_rules.Problem.{Problem}
+use Rattle.stability.specs.problem_rules.Validity.{IsValid}
+use Rattle.stability.specs.flow_rules.declared.place.Column.{Column}
+use Rattle.stability.specs.flow_rules.declared.place.Place.{Place}
+use Rattle.stability.specs.tree_rules.Claim.{Network}
+use Rattle.stability.specs.tree_rules.Accepted.{Tree, first_node}
+use Rattle.stability.specs.tree_rules.Tail as tails
+use Rattle.stability.specs.tree_laws.Laws.{AcceptedIsOptimal}
+use Rattle.stability.specs.tree_text_rules.Read.{Certificate}
+use Rattle.stability.specs.node_evaluation.Children.{claim_with}
+use Rattle.stability.specs.abb_search.declared.outcome.Found.{Found}
+use Rattle.stability.specs.abb_search.declared.outcome.Found.TheVariants as founds
+use Rattle.stability.specs.abb_search.Found.{IsFound}
+use Rattle.searches.proofs.Cited.{holds}
+use Rattle.stability.specs.report_rules.declared.spot.Spot.{Spot}
+use Rattle.stability.specs.report_rules.Spot.{KnowsSpot, valued, IsAllowedValue}
+use Rattle.stability.specs.report_rules.Range.{MayWant, IsHalfProved, IsPastCost}
+use Rattle.stability.specs.stability_laws.Laws.{ValuedIsValid}
 use Rattle.stability.specs.declared.outcome.RangeFault.{RangeFault}
 use Rattle.stability.specs.declared.outcome.RangeFault.TheVariants.{NotBest, Spent, Past, PastCost}
 use Rattle.stability.specs.declared.outcome.RangeFault.TheVariants.{Memory}
 use Rattle.stability.specs.Refusal.{IsRefusal}
-use Rattle.studio_rules.specs.StableTable.{HasEnds, SearchStops, CostStops}
+use Rattle.network_commands.specs.studio_rules.StableTable.{HasEnds, SearchStops, CostStops}
 
 -- both cells are `?` if there is a cause
 pub open_for : (budget : ℕ) (p : Problem) (w : Network) (spot : Spot) (from to : List ℕ)

@@ -1,34 +1,37 @@
 -- What the printed lines say of the range.
 use Rattle.std.proofs.Common.{◌≡◌, ◌<◌, ◌∷◌, ℕ, ℤ, List, Option, Some, None, Ok, length, refl, sym}
 use Rattle.std.proofs.Common.{◌∙◌, subst, inl, inr}
-use Rattle.number_sets.proofs.SetLemmas.{below_from}
-use Rattle.problem_rules.specs.Problem.{Problem}
-use Rattle.problem_rules.specs.Validity.{IsValid}
-use Rattle.pns_rules.specs.Shape.{Shape}
-use Rattle.tree_rules.specs.Claim.{Network}
-use Rattle.tree_rules.specs.Accepted.{Tree, first_node}
-use Rattle.tree_laws.specs.Laws.{AcceptedIsOptimal}
-use Rattle.flow_rules.specs.declared.place.Column.{Column}
-use Rattle.flow_rules.specs.declared.place.Place.{Place}
-use Rattle.tree_text_rules.specs.Read.{Certificate, read_text}
-use Rattle.tree_text_rules.specs.Spelling.{tree_text, tree_text_lines}
-use Rattle.abb_search.specs.declared.outcome.Found.{Found}
-use Rattle.abb_search.specs.declared.outcome.Found.TheVariants as founds
-use Rattle.abb_search.specs.Found.{IsFound}
-use Rattle.studio_rules.specs.Solve.{status_of, PlainWork}
+use Rattle.stability.proofs.number_sets.Cited.{below_from}
+use Rattle.stability.specs.problem_rules.Problem.{Problem}
+use Rattle.stability.specs.problem_rules.Validity.{IsValid}
+use Rattle.stability.specs.pns_rules.Shape.{Shape}
+use Rattle.stability.specs.tree_rules.Claim.{Network}
+use Rattle.stability.specs.tree_rules.Accepted.{Tree, first_node}
+use Rattle.stability.specs.tree_laws.Laws.{AcceptedIsOptimal}
+use Rattle.stability.specs.flow_rules.declared.place.Column.{Column}
+use Rattle.stability.specs.flow_rules.declared.place.Place.{Place}
+use Rattle.stability.specs.tree_text_rules.Read.{Certificate, read_text}
+use Rattle.stability.specs.tree_text_rules.Spelling.{tree_text, tree_text_lines}
+use Rattle.stability.specs.abb_search.declared.outcome.Found.{Found}
+use Rattle.stability.specs.abb_search.declared.outcome.Found.TheVariants as founds
+use Rattle.stability.specs.abb_search.Found.{IsFound}
+use Rattle.network_commands.specs.studio_rules.Solve.{status_of, PlainWork}
 use Rattle.searches.specs.Found.{certificate_of}
-use Rattle.searches.proofs.FoundTexts.{CanPrint, can_print, found_solves, are_text}
-use Rattle.report_rules.specs.declared.spot.Spot.{Spot}
-use Rattle.report_rules.specs.declared.side.Side.{Side}
-use Rattle.report_rules.specs.Spot.{KnowsSpot, valued, IsAllowedValue}
-use Rattle.report_rules.specs.Range.{IsCheaper, EndsAt, beyond, IsRange, IsHalfProved, MayWant}
-use Rattle.report_rules.specs.Range.{IsPastCost}
-use Rattle.stability_laws.specs.Laws.{ShapeStays}
-use Rattle.studio_rules.specs.Printed.{spelled, OneAnswer}
-use Rattle.studio_rules.specs.declared.status.Status.{Status}
-use Rattle.studio_rules.specs.declared.status.Status.TheVariants.{Done, Past, Spent, NotBest}
-use Rattle.studio_rules.specs.Stable.{range_lines, not_best_lines, at_line, past_cost_lines}
-use Rattle.studio_rules.specs.Stable.{SpotWork}
+use Rattle.searches.proofs.Cited.{CanPrint, can_print, found_solves, are_text}
+use Rattle.stability.specs.report_rules.declared.spot.Spot.{Spot}
+use Rattle.stability.specs.report_rules.declared.side.Side.{Side}
+use Rattle.stability.specs.report_rules.Spot.{KnowsSpot, valued, IsAllowedValue}
+use Rattle.stability.specs.report_rules.Range.{IsCheaper, EndsAt, beyond, IsRange, IsHalfProved}
+use Rattle.stability.specs.report_rules.Range.{MayWant}
+use Rattle.stability.specs.report_rules.Range.{IsPastCost}
+use Rattle.stability.specs.stability_laws.Laws.{ShapeStays}
+use Rattle.network_commands.specs.studio_rules.Printed.{spelled, OneAnswer}
+use Rattle.network_commands.specs.studio_rules.declared.status.Status.{Status}
+use Rattle.network_commands.specs.studio_rules.declared.status.Status.TheVariants.{Done, Past}
+use Rattle.network_commands.specs.studio_rules.declared.status.Status.TheVariants.{Spent, NotBest}
+use Rattle.network_commands.specs.studio_rules.Stable.{range_lines, not_best_lines, at_line}
+use Rattle.network_commands.specs.studio_rules.Stable.{past_cost_lines}
+use Rattle.network_commands.specs.studio_rules.Stable.{SpotWork}
 use Rattle.stability_commands.specs.Beyond.{KnowsBeyond, StopSays}
 
 -- a network that is feasible with another value in the spot has units of the problem

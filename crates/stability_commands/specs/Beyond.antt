@@ -1,14 +1,14 @@
 -- What the printing of a range needs, and the text of a search that stops, for the proof of the
 -- command.
 use Rattle.std.specs.Prelude.{◌≡◌, ℕ, ℤ, List, [], ◌∷◌, ◌++◌, Option, Some, None, length}
-use Rattle.number_sets.specs.Sets.{AreBelow}
-use Rattle.problem_rules.specs.Problem.{Problem}
-use Rattle.tree_rules.specs.Claim.{Network}
-use Rattle.abb_search.specs.declared.outcome.Found.{Found}
+use Rattle.stability.specs.number_sets.Sets.{AreBelow}
+use Rattle.stability.specs.problem_rules.Problem.{Problem}
+use Rattle.stability.specs.tree_rules.Claim.{Network}
+use Rattle.stability.specs.abb_search.declared.outcome.Found.{Found}
 use Rattle.searches.specs.Found.{FoundSays}
-use Rattle.studio_rules.specs.Printed.{spelled}
-use Rattle.studio_rules.specs.declared.status.Status.{Status}
-use Rattle.studio_rules.specs.Stable.{at_line}
+use Rattle.network_commands.specs.studio_rules.Printed.{spelled}
+use Rattle.network_commands.specs.studio_rules.declared.status.Status.{Status}
+use Rattle.network_commands.specs.studio_rules.Stable.{at_line}
 
 -- the units of such a network are ones of the problem
 abbrev pub KnowsBeyond : Problem → Option Network → Type 0

@@ -1,7 +1,7 @@
 -- Why there is no table of ranges, for the proof of the command.
-use Rattle.problem_rules.specs.Problem.{Problem}
-use Rattle.tree_rules.specs.Claim.{Network}
-use Rattle.report_rules.specs.Range.{IsCheaper}
+use Rattle.stability.specs.problem_rules.Problem.{Problem}
+use Rattle.stability.specs.tree_rules.Claim.{Network}
+use Rattle.stability.specs.report_rules.Range.{IsCheaper}
 use Rattle.stability_commands.specs.declared.cells.TableFault.{TableFault}
 use Rattle.stability_commands.specs.declared.cells.TableFault.TheVariants.{NotBest, Memory}
 

@@ -1,24 +1,22 @@
 //! A row of the table: what is varied, and its range.
 ghost use Rattle.std.specs.Prelude.{◌≡◌, ◌≤◌, ℕ, IfOk, IfErr, codes, string_bytes};
-ghost use Rattle.problem_rules.specs.Problem.{Problem};
-ghost use Rattle.problem_rules.specs.Validity.{IsValid};
-ghost use Rattle.tree_rules.specs.Claim.{Network, IsFeasible};
-ghost use Rattle.report_rules.specs.declared.spot.Spot.{Spot};
-ghost use Rattle.report_rules.specs.Spot.{KnowsSpot};
+ghost use Rattle.stability.specs.problem_rules.Problem.{Problem};
+ghost use Rattle.stability.specs.problem_rules.Validity.{IsValid};
+ghost use Rattle.stability.specs.tree_rules.Claim.{Network, IsFeasible};
+ghost use Rattle.stability.specs.report_rules.declared.spot.Spot.{Spot};
+ghost use Rattle.stability.specs.report_rules.Spot.{KnowsSpot};
 ghost use Rattle.stability.specs.Refusal.{IsRefusal};
-ghost use Rattle.studio_rules.specs.StableTable.{kind_cell, name_cell, end_cell, HasEnds};
-ghost use Rattle.studio_rules.specs.StableTable.{range_row, IsRangeRow};
+ghost use Rattle.network_commands.specs.studio_rules.StableTable.{kind_cell, name_cell, end_cell};
+ghost use Rattle.network_commands.specs.studio_rules.StableTable.{HasEnds};
+ghost use Rattle.network_commands.specs.studio_rules.StableTable.{range_row, IsRangeRow};
 ghost use Rattle.stability_commands.specs.Table.{IsTableFault};
 
-use branch_tree::Network;
-use pgraph::Site;
-use pns_problem::{Problem, amount_text};
-use pns_io::{Effort, Watch};
-use report_tables::{Row, push_words};
-use stability::{Range, RangeFault, Spot, range, value_at};
-use stability_laws::valued_is_valid;
+use network_commands::{Row, push_words};
+use stability::{
+    Effort, Network, Problem, Range, RangeFault, Site, Spot, Watch, accepted_is_optimal,
+    amount_text, range, value_at, valued_is_valid,
+};
 use std::alloc::{AllocError, Global};
-use tree_laws::accepted_is_optimal;
 
 /// The two ends of a range, as cells.
 #[derive(Drop)]

@@ -10,11 +10,11 @@
 //! all; `spots`, what is varied, `cells`, a row, and `table`, its lines.
 #![tactic(auto)]
 
+pub use stability::{SpotKind, valued_is_valid};
+
 mod cells;
 pub mod ranges;
 mod spots;
 pub mod stable;
 mod table;
 mod text;
-
-pub use report_rules::SpotKind;

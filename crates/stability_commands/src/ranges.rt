@@ -1,28 +1,21 @@
 //! The command `stable` without a price or cost: a table of all.
 ghost use Rattle.std.specs.Prelude.{◌≡◌, ◌≤◌};
-ghost use Rattle.tree_rules.specs.Claim.{IsFeasible};
-ghost use Rattle.branch_tree.specs.View.{claim_of};
-ghost use Rattle.studio_rules.specs.Reading.{TwoFilesSay};
-ghost use Rattle.studio_rules.specs.HeadedFile.{AnyHead, OnHeaded};
-ghost use Rattle.studio_rules.specs.Network.{OnNetwork};
-ghost use Rattle.studio_rules.specs.StableTable.{RangesWork};
-ghost use Rattle.studio_rules.specs.Ending.{Ends, Says, Tells};
-ghost use Rattle.studio_rules.specs.Keeps.{Keeps};
+ghost use Rattle.stability.specs.tree_rules.Claim.{IsFeasible};
+ghost use Rattle.stability.specs.branch_tree.View.{claim_of};
+ghost use Rattle.network_commands.specs.studio_rules.Reading.{TwoFilesSay};
+ghost use Rattle.network_commands.specs.studio_rules.HeadedFile.{AnyHead, OnHeaded};
+ghost use Rattle.network_commands.specs.studio_rules.Network.{OnNetwork};
+ghost use Rattle.network_commands.specs.studio_rules.StableTable.{RangesWork};
+ghost use Rattle.network_commands.specs.studio_rules.Ending.{Ends, Says, Tells};
+ghost use Rattle.network_commands.specs.studio_rules.Keeps.{Keeps};
 
 use crate::cells::TableFault;
 use crate::stable::say_not_best;
 use crate::table::table_of;
-use branch_tree::{Claim, Network, Tree};
-use command_files::{headed_of, problem_of};
-use command_files::say::{say_memory, say_text};
-use network_commands::network_of;
-use pgraph::{Graph, Site};
-use pns_io::{Outputs, Shelf, Sink};
-use pns_problem::Problem;
-use pns_io::{Effort, Watch};
+use network_commands::say::{say_memory, say_text};
+use network_commands::{Headed, Status, headed_of, network_of, problem_of};
+use stability::{Claim, Effort, Graph, Network, Outputs, Problem, Shelf, Sink, Site, Tree, Watch};
 use std::alloc::Global;
-use studio_rules::Status;
-use tree_reading::Headed;
 
 /// The tree of a call, and what its searches may take.
 #[derive(Drop)]

@@ -1,14 +1,12 @@
 //! The prices and costs of a network, which may vary.
 ghost use Rattle.std.specs.Prelude.{◌≡◌, ◌<◌, ◌++◌, ℕ, true, IfOk, OnOk, map, flat_map, length};
-ghost use Rattle.number_sets.specs.Sets.{has};
-ghost use Rattle.flow_rules.specs.Net.{net_of, materials_of};
-ghost use Rattle.report_rules.specs.declared.spot.Spot.TheVariants.{Price};
-ghost use Rattle.studio_rules.specs.StableTable.{cost_spots, spots_of};
+ghost use Rattle.stability.specs.number_sets.Sets.{has};
+ghost use Rattle.stability.specs.flow_rules.Net.{net_of, materials_of};
+ghost use Rattle.stability.specs.report_rules.declared.spot.Spot.TheVariants.{Price};
+ghost use Rattle.network_commands.specs.studio_rules.StableTable.{cost_spots, spots_of};
 
-use branch_tree::Network;
-use pgraph::Site;
-use report_amounts::materials_in;
-use stability::Spot;
+use network_commands::materials_in;
+use stability::{Network, Site, Spot};
 use std::alloc::{AllocError, Global};
 
 /// The prices of the network's materials.

@@ -1,45 +1,39 @@
 //! The command `stable`.
 ghost use Rattle.std.specs.Prelude.{◌≡◌, ◌≤◌, ℕ, IfSome, length};
-ghost use Rattle.number_sets.specs.Sets.{AreBelow};
-ghost use Rattle.pns_rules.specs.Shape.{shape_of};
-ghost use Rattle.pgraph.specs.Tables.{shape};
-ghost use Rattle.tree_rules.specs.Claim.{Network, IsFeasible};
-ghost use Rattle.tree_rules.specs.Accepted.{first_node};
-ghost use Rattle.branch_tree.specs.View.{claim_of};
-ghost use Rattle.abb_search.specs.Found.{IsFound};
-ghost use Rattle.studio_rules.specs.Reading.{TwoFilesSay};
-ghost use Rattle.studio_rules.specs.HeadedFile.{AnyHead, OnHeaded};
-ghost use Rattle.studio_rules.specs.Network.{OnNetwork};
-ghost use Rattle.report_rules.specs.Spot.{KnowsSpot, IsAllowedValue, valued};
+ghost use Rattle.stability.specs.number_sets.Sets.{AreBelow};
+ghost use Rattle.stability.specs.pns_rules.Shape.{shape_of};
+ghost use Rattle.stability.specs.pgraph.Tables.{shape};
+ghost use Rattle.stability.specs.tree_rules.Claim.{Network, IsFeasible};
+ghost use Rattle.stability.specs.tree_rules.Accepted.{first_node};
+ghost use Rattle.stability.specs.branch_tree.View.{claim_of};
+ghost use Rattle.stability.specs.abb_search.Found.{IsFound};
+ghost use Rattle.network_commands.specs.studio_rules.Reading.{TwoFilesSay};
+ghost use Rattle.network_commands.specs.studio_rules.HeadedFile.{AnyHead, OnHeaded};
+ghost use Rattle.network_commands.specs.studio_rules.Network.{OnNetwork};
+ghost use Rattle.stability.specs.report_rules.Spot.{KnowsSpot, IsAllowedValue, valued};
 ghost use Rattle.stability.specs.Refusal.{IsRefusal};
-ghost use Rattle.studio_rules.specs.Stable.{spot_named, not_best_lines, past_cost_lines, SpotWork};
-ghost use Rattle.studio_rules.specs.Stable.{NamedWork, StableWork};
+ghost use Rattle.network_commands.specs.studio_rules.Stable.{spot_named, not_best_lines};
+ghost use Rattle.network_commands.specs.studio_rules.Stable.{past_cost_lines, SpotWork};
+ghost use Rattle.network_commands.specs.studio_rules.Stable.{NamedWork, StableWork};
 ghost use Rattle.stability_commands.specs.Beyond.{StopSays};
-ghost use Rattle.studio_rules.specs.declared.status.Status.TheVariants.{NotBest, Past};
-ghost use Rattle.studio_rules.specs.Printed.{OneAnswer};
-ghost use Rattle.studio_rules.specs.Ending.{Ends, Says, Tells};
-ghost use Rattle.studio_rules.specs.Keeps.{Keeps};
+ghost use Rattle.network_commands.specs.studio_rules.declared.status.Status.TheVariants.{NotBest};
+ghost use Rattle.network_commands.specs.studio_rules.declared.status.Status.TheVariants.{Past};
+ghost use Rattle.network_commands.specs.studio_rules.Printed.{OneAnswer};
+ghost use Rattle.network_commands.specs.studio_rules.Ending.{Ends, Says, Tells};
+ghost use Rattle.network_commands.specs.studio_rules.Keeps.{Keeps};
 
 use crate::text::{print_not_best, print_past_cost, print_range, print_stopped};
-use abb_search::Found;
-use branch_tree::{Claim, Network, Tree};
-use command_files::{headed_of, problem_of};
-use command_files::say::{say_memory, say_printed, tell};
-use studio_words::{Notes, unknown_material, unknown_unit};
-use network_commands::network_of;
-use pgraph::{Graph, Site};
-use pns_io::{Outputs, Shelf, Sink};
-use pns_problem::Problem;
-use pns_io::{Effort, Watch};
+use network_commands::say::{say_memory, say_printed, tell};
+use network_commands::{
+    Headed, Notes, PrintFault, Status, headed_of, network_of, problem_of, unknown_material,
+    unknown_unit,
+};
 use searches::certificate_of;
-use stability::{RangeFault, Spot, range, valued};
-use stability_laws::{structures_stay, valued_is_valid};
-use report_rules::SpotKind;
+use stability::{
+    Claim, Effort, Found, Graph, Network, Outputs, Problem, RangeFault, Shelf, Sink, Site, Spot,
+    SpotKind, Tree, Watch, accepted_is_optimal, range, structures_stay, valued, valued_is_valid,
+};
 use std::alloc::Global;
-use studio_rules::Status;
-use tree_laws::accepted_is_optimal;
-use tree_reading::Headed;
-use tree_text::PrintFault;
 
 /// The spot of this kind and name. It is `None` if and only if the problem has no such material or
 /// unit.

@@ -1,21 +1,18 @@
 //! The table of the ranges of a network.
 ghost use Rattle.std.specs.Prelude.{◌≡◌, ◌≤◌, ◌++◌, ℕ, List, IfOk, IfErr, OnOk, string_bytes};
-ghost use Rattle.problem_rules.specs.Each.{Each};
-ghost use Rattle.tree_rules.specs.Claim.{IsFeasible};
-ghost use Rattle.report_rules.specs.Spot.{KnowsSpot};
-ghost use Rattle.studio_rules.specs.Lines.{text_of};
-ghost use Rattle.studio_rules.specs.StableTable.{spots_of, AreRangeRows, has_open, range_table};
-ghost use Rattle.studio_rules.specs.StableTable.{RangesLines, open_lines};
+ghost use Rattle.stability.specs.problem_rules.Each.{Each};
+ghost use Rattle.stability.specs.tree_rules.Claim.{IsFeasible};
+ghost use Rattle.stability.specs.report_rules.Spot.{KnowsSpot};
+ghost use Rattle.network_commands.specs.studio_rules.Lines.{text_of};
+ghost use Rattle.network_commands.specs.studio_rules.StableTable.{spots_of, AreRangeRows, has_open};
+ghost use Rattle.network_commands.specs.studio_rules.StableTable.{range_table};
+ghost use Rattle.network_commands.specs.studio_rules.StableTable.{RangesLines, open_lines};
 ghost use Rattle.stability_commands.specs.Table.{IsTableFault};
 
 use crate::cells::{TableFault, row_of};
 use crate::spots::spots_of;
-use branch_tree::Network;
-use pgraph::Site;
-use pns_io::{Effort, Watch};
-use report_rules::Sort;
-use report_tables::{Row, push_table};
-use stability::Spot;
+use network_commands::{Row, push_table};
+use stability::{Effort, Network, Site, Sort, Spot, Watch};
 use std::alloc::{AllocError, Global};
 
 const HEADING: [&str; 5] = ["kind", "name", "from", "now", "to"];

@@ -2,23 +2,22 @@
 ghost use Rattle.std.specs.Prelude.{◌≡◌, ◌≤◌, ◌++◌, ◌∷◌, [], List, codes, decimal, IfOk};
 ghost use Rattle.std.specs.Prelude.{string_bytes, length};
 ghost use Rattle.std.specs.Fmt.{signed_decimal};
-ghost use Rattle.number_sets.specs.Sets.{AreBelow};
-ghost use Rattle.tree_rules.specs.Known.{KnowsClaim, KnowsTree, KnowsTail};
-ghost use Rattle.tree_text_rules.specs.Line.{Token};
-ghost use Rattle.tree_text_rules.specs.Spelling.{line_text, network_lines, tree_text_lines};
-ghost use Rattle.tree_text.specs.Prints.{Prints};
-ghost use Rattle.studio_rules.specs.Stable.{side_word, beyond_lines, end_lines, range_lines};
-ghost use Rattle.studio_rules.specs.Stable.{not_best_lines, at_line, past_cost_lines};
+ghost use Rattle.stability.specs.number_sets.Sets.{AreBelow};
+ghost use Rattle.stability.specs.tree_rules.Known.{KnowsClaim, KnowsTree, KnowsTail};
+ghost use Rattle.stability.specs.tree_text_rules.Line.{Token};
+ghost use Rattle.stability.specs.tree_text_rules.Spelling.{line_text, network_lines};
+ghost use Rattle.stability.specs.tree_text_rules.Spelling.{tree_text_lines};
+ghost use Rattle.network_commands.specs.tree_text.Prints.{Prints};
+ghost use Rattle.network_commands.specs.studio_rules.Stable.{side_word, beyond_lines, end_lines};
+ghost use Rattle.network_commands.specs.studio_rules.Stable.{range_lines};
+ghost use Rattle.network_commands.specs.studio_rules.Stable.{not_best_lines, at_line};
+ghost use Rattle.network_commands.specs.studio_rules.Stable.{past_cost_lines};
 ghost use Rattle.stability_commands.specs.Beyond.{KnowsBeyond};
 
-use branch_tree::Network;
-use pns_io::Sink;
-use pns_problem::Problem;
+use network_commands::{PrintFault, print_network};
 use searches::Certificate;
-use stability::Range;
-use report_rules::Side;
+use stability::{Network, Problem, Range, Side, Sink};
 use std::alloc::{AllocError, Global};
-use tree_text::{PrintFault, print_network};
 
 fn number_line(alloc: Global, head: &str, number: i64) -> Result<String, AllocError>
     ensures { IfOk result

@@ -3,16 +3,16 @@
 use Rattle.std.proofs.Common.{◌≡◌, ℕ, Bool, ℤ, pos, ◌+ℤ◌, ◌-ℤ◌, ◌*ℤ◌, ◌≤ℤ◌, sym, ap, ◌∙◌, subst}
 use Rattle.std.proofs.Common.{arith}
 use Rattle.std.proofs.lemmas.Int.{ints}
-use Rattle.integer_laws.proofs.Ring.{ring_z}
-use Rattle.integer_laws.proofs.Order.{mul-le_left, mul-le_left_neg, mul-le_right}
-use Rattle.number_sets.specs.Sets.{has}
-use Rattle.problem_rules.specs.Problem.{Problem}
-use Rattle.problem_rules.specs.Validity.{IsValid}
-use Rattle.pns_rules.specs.Shape.{Shape, shape_of}
-use Rattle.pns_rules.specs.Structure.{IsStructure, IsAllowed}
-use Rattle.flow_rules.specs.Net.{net_of}
-use Rattle.flow_rules.specs.Flows.{IsFlows, cost}
-use Rattle.tree_rules.specs.Claim.{Network, size_in, IsFeasible}
+use Rattle.report_rules.proofs.integer_laws.Cited.{ring_z, mul-le_left, mul-le_left_neg}
+use Rattle.report_rules.proofs.integer_laws.Cited.{mul-le_right}
+use Rattle.report_rules.specs.number_sets.Sets.{has}
+use Rattle.report_rules.specs.problem_rules.Problem.{Problem}
+use Rattle.report_rules.specs.problem_rules.Validity.{IsValid}
+use Rattle.report_rules.specs.pns_rules.Shape.{Shape, shape_of}
+use Rattle.report_rules.specs.pns_rules.Structure.{IsStructure, IsAllowed}
+use Rattle.report_rules.specs.flow_rules.Net.{net_of}
+use Rattle.report_rules.specs.flow_rules.Flows.{IsFlows, cost}
+use Rattle.report_rules.specs.tree_rules.Claim.{Network, size_in, IsFeasible}
 use Rattle.report_rules.specs.declared.spot.Spot.{Spot}
 use Rattle.report_rules.specs.declared.side.Side.{Side}
 use Rattle.report_rules.specs.declared.side.Side.TheVariants.{Below, Above}

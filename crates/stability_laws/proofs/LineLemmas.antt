@@ -3,9 +3,8 @@
 use Rattle.std.proofs.Common.{◌≡◌, ℕ, zero, suc, Bool, true, false, cond, List, [], ◌∷◌, inl, inr}
 use Rattle.std.proofs.Common.{ℤ, pos, ◌+ℤ◌, ◌-ℤ◌, ◌*ℤ◌, ◌≤ℤ◌, ap, ◌∙◌, arith}
 use Rattle.std.proofs.lemmas.Int.{ints}
-use Rattle.integer_laws.specs.Total.{total, total_below}
-use Rattle.integer_laws.proofs.Ring.{ring_z}
-use Rattle.integer_laws.proofs.Order.{sign_cases, mul-le_left, mul-le_left_neg}
+use Rattle.report_rules.specs.integer_laws.Total.{total, total_below}
+use Rattle.report_rules.proofs.integer_laws.Cited.{ring_z, sign_cases, mul-le_left, mul-le_left_neg}
 use Rattle.stability_laws.specs.Laws.{IsLine}
 
 pub constant : (c : ℤ) → IsLine (λ v. c)

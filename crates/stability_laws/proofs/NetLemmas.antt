@@ -2,18 +2,22 @@
 use Rattle.std.proofs.Common.{◌≡◌, ℕ, ◌==◌, Bool, cond, List, [], ◌∷◌, ◌++◌, length, ℤ, pos, ◌+ℤ◌}
 use Rattle.std.proofs.Common.{◌-ℤ◌, ◌*ℤ◌, refl, sym, ap, ◌∙◌, subst}
 use Rattle.std.proofs.Math.ListN.{length-set}
-use Rattle.integer_laws.specs.Total.{total_below}
-use Rattle.number_sets.specs.Sets.{has}
-use Rattle.problem_rules.specs.Problem.{Problem, material_at, unit_at, exclusion_at, rate_of}
-use Rattle.problem_rules.specs.Problem.{rate_in, terms_have, is_raw_material, is_product}
-use Rattle.pns_rules.specs.Shape.{shape_of}
-use Rattle.pns_rules.specs.Structure.{IsStructure, IsAllowed}
-use Rattle.flow_rules.specs.Net.{Net, net_of, trillion, million, size_cost, units_of, materials_of}
-use Rattle.flow_rules.specs.Flows.{IsFlows, cost}
-use Rattle.flow_rules.specs.Steps.{AreInRange}
-use Rattle.flow_rules.specs.CostSteps.{cost_steps}
-use Rattle.flow_rules.specs.FeasibleSteps.{units_at, balance_steps, materials_steps, feasible_steps}
-use Rattle.tree_rules.specs.Claim.{Network, size_in, IsFeasible}
+use Rattle.report_rules.specs.integer_laws.Total.{total_below}
+use Rattle.report_rules.specs.number_sets.Sets.{has}
+use Rattle.report_rules.specs.problem_rules.Problem.{Problem, material_at, unit_at, exclusion_at}
+use Rattle.report_rules.specs.problem_rules.Problem.{rate_of}
+use Rattle.report_rules.specs.problem_rules.Problem.{rate_in, terms_have, is_raw_material}
+use Rattle.report_rules.specs.problem_rules.Problem.{is_product}
+use Rattle.report_rules.specs.pns_rules.Shape.{shape_of}
+use Rattle.report_rules.specs.pns_rules.Structure.{IsStructure, IsAllowed}
+use Rattle.report_rules.specs.flow_rules.Net.{Net, net_of, trillion, million, size_cost, units_of}
+use Rattle.report_rules.specs.flow_rules.Net.{materials_of}
+use Rattle.report_rules.specs.flow_rules.Flows.{IsFlows, cost}
+use Rattle.report_rules.specs.flow_rules.Steps.{AreInRange}
+use Rattle.report_rules.specs.flow_rules.CostSteps.{cost_steps}
+use Rattle.report_rules.specs.flow_rules.FeasibleSteps.{units_at, balance_steps, materials_steps}
+use Rattle.report_rules.specs.flow_rules.FeasibleSteps.{feasible_steps}
+use Rattle.report_rules.specs.tree_rules.Claim.{Network, size_in, IsFeasible}
 use Rattle.report_rules.specs.declared.spot.Spot.{Spot}
 use Rattle.report_rules.specs.declared.spot.Spot.TheVariants.{Price, Fix, Proportional}
 use Rattle.report_rules.specs.Spot.{KnowsSpot, valued}

@@ -4,24 +4,27 @@ use Rattle.std.proofs.Common.{neg_ℤ, ◌+ℤ◌, ◌-ℤ◌, ◌*ℤ◌, ◌�
 use Rattle.std.proofs.Common.{length}
 use Rattle.std.proofs.lemmas.Int.{ints}
 use Rattle.std.proofs.lemmas.Bool.Decides.{eqb_tells}
-use Rattle.integer_laws.specs.Total.{total, total_below}
-use Rattle.integer_laws.proofs.Ring.{ring, Polynomial, V, N, ◌⊕◌, ◌⊖◌, ◌⊗◌, Neg}
-use Rattle.integer_laws.proofs.Order.{mul_nonneg, mul-le_left, mul-le_right, le_trans_z}
-use Rattle.integer_laws.proofs.Totals.{total-add, total-mul, total-same, total-zero}
-use Rattle.integer_laws.proofs.IndexTotals.{total_below-sub, total_below-single}
-use Rattle.number_sets.specs.Sets.{listed}
-use Rattle.problem_rules.specs.Problem.{Problem, Material, material_at, unit_at, rate_of}
-use Rattle.problem_rules.specs.Problem.{is_raw_material, is_product}
-use Rattle.problem_rules.specs.Validity.{IsValid}
-use Rattle.problem_rules.proofs.ValidLemmas.{well_formed_from_valid}
-use Rattle.pns_rules.specs.Shape.{shape_of}
-use Rattle.pns_rules.specs.Structure.{mats, IsStructure}
-use Rattle.flow_rules.specs.Net.{Net, net_of, million, trillion, size_cost, units_of, low_end}
-use Rattle.flow_rules.specs.Net.{high_end}
-use Rattle.flow_rules.specs.Flows.{IsFlows, balance, cost}
-use Rattle.flow_rules.proofs.ListedLemmas.{All-listed, total-listed}
-use Rattle.flow_rules.proofs.NetLemmas.{IsNet, net_of_valid, not_negative_from}
-use Rattle.flow_rules.proofs.RelaxedLemmas.{rate_of_other}
+use Rattle.report_rules.specs.integer_laws.Total.{total, total_below}
+use Rattle.report_rules.proofs.integer_laws.Cited.{ring, Polynomial, V, N, ◌⊕◌, ◌⊖◌, ◌⊗◌, Neg}
+use Rattle.report_rules.proofs.integer_laws.Cited.{mul_nonneg}
+use Rattle.report_rules.proofs.integer_laws.Cited.{mul-le_left, mul-le_right, le_trans_z, total-add}
+use Rattle.report_rules.proofs.integer_laws.Cited.{total-mul}
+use Rattle.report_rules.proofs.integer_laws.Cited.{total-same, total-zero, total_below-sub}
+use Rattle.report_rules.proofs.integer_laws.Cited.{total_below-single}
+use Rattle.report_rules.specs.number_sets.Sets.{listed}
+use Rattle.report_rules.specs.problem_rules.Problem.{Problem, Material, material_at, unit_at}
+use Rattle.report_rules.specs.problem_rules.Problem.{rate_of}
+use Rattle.report_rules.specs.problem_rules.Problem.{is_raw_material, is_product}
+use Rattle.report_rules.specs.problem_rules.Validity.{IsValid}
+use Rattle.report_rules.proofs.problem_rules.Cited.{well_formed_from_valid}
+use Rattle.report_rules.specs.pns_rules.Shape.{shape_of}
+use Rattle.report_rules.specs.pns_rules.Structure.{mats, IsStructure}
+use Rattle.report_rules.specs.flow_rules.Net.{Net, net_of, million, trillion, size_cost, units_of}
+use Rattle.report_rules.specs.flow_rules.Net.{low_end}
+use Rattle.report_rules.specs.flow_rules.Net.{high_end}
+use Rattle.report_rules.specs.flow_rules.Flows.{IsFlows, balance, cost}
+use Rattle.report_rules.proofs.flow_rules.Cited.{All-listed, total-listed, IsNet, net_of_valid}
+use Rattle.report_rules.proofs.flow_rules.Cited.{not_negative_from, rate_of_other}
 use Rattle.report_rules.specs.declared.spot.Spot.{Spot}
 use Rattle.report_rules.specs.declared.spot.Spot.TheVariants.{Price, Fix, Proportional}
 use Rattle.report_rules.specs.declared.side.Side.{Side}

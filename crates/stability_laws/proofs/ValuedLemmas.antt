@@ -5,15 +5,14 @@ use Rattle.std.specs.Prelude.{int_lt}
 use Rattle.std.proofs.lemmas.Int.{ints}
 use Rattle.std.proofs.lemmas.List.{set-get_or, get_or-set_same, get_or-set_other}
 use Rattle.std.proofs.lemmas.Bool.Decides.{eqb_tells, nat_tests}
-use Rattle.problem_rules.specs.Problem.{Problem, Material, OperatingUnit, material_at, unit_at}
-use Rattle.problem_rules.specs.Problem.{no_material, no_unit}
-use Rattle.problem_rules.specs.Validity.{IsValid}
-use Rattle.problem_rules.specs.WellFormed.{IsInRange, IsBound}
-use Rattle.edit_laws.proofs.ListLemmas.{Each-at, Each-set}
-use Rattle.edit_laws.proofs.Soundness.{IsSoundUnit}
-use Rattle.edit_laws.proofs.Goodness.{IsGoodMaterial, IsGoodUnit, IsWell}
-use Rattle.edit_laws.proofs.SoundLemmas.{material_kept, unit_kept, product_kept}
-use Rattle.edit_laws.proofs.ValidLemmas.{well_from_valid, valid_from_well}
+use Rattle.report_rules.specs.problem_rules.Problem.{Problem, Material, OperatingUnit, material_at}
+use Rattle.report_rules.specs.problem_rules.Problem.{unit_at}
+use Rattle.report_rules.specs.problem_rules.Problem.{no_material, no_unit}
+use Rattle.report_rules.specs.problem_rules.Validity.{IsValid}
+use Rattle.report_rules.specs.problem_rules.WellFormed.{IsInRange, IsBound}
+use Rattle.edit_laws.proofs.Cited.{Each-at, Each-set, IsSoundUnit, IsGoodMaterial, IsGoodUnit}
+use Rattle.edit_laws.proofs.Cited.{IsWell, material_kept, unit_kept, product_kept, well_from_valid}
+use Rattle.edit_laws.proofs.Cited.{valid_from_well}
 use Rattle.report_rules.specs.declared.spot.Spot.{Spot}
 use Rattle.report_rules.specs.declared.spot.Spot.TheVariants.{Price, Fix, Proportional}
 use Rattle.report_rules.specs.Spot.{KnowsSpot, value_at, valued, IsAllowedValue}

@@ -1,15 +1,15 @@
 -- The laws of values in a spot. Each is the contract of a public function of this crate.
 use Rattle.std.specs.Prelude.{◌≡◌, ℕ, ℤ, ◌+ℤ◌, ◌*ℤ◌, ◌≤ℤ◌, Bool}
-use Rattle.number_sets.specs.Sets.{has}
-use Rattle.problem_rules.specs.Problem.{Problem}
-use Rattle.problem_rules.specs.Validity.{IsValid}
-use Rattle.pns_rules.specs.Shape.{shape_of}
-use Rattle.pns_rules.specs.Structure.{IsStructure}
-use Rattle.flow_rules.specs.Net.{net_of}
-use Rattle.flow_rules.specs.Flows.{IsFlows, cost}
-use Rattle.flow_rules.specs.Steps.{AreInRange}
-use Rattle.flow_rules.specs.CostSteps.{cost_steps}
-use Rattle.tree_rules.specs.Claim.{Network, size_in, IsFeasible}
+use Rattle.report_rules.specs.number_sets.Sets.{has}
+use Rattle.report_rules.specs.problem_rules.Problem.{Problem}
+use Rattle.report_rules.specs.problem_rules.Validity.{IsValid}
+use Rattle.report_rules.specs.pns_rules.Shape.{shape_of}
+use Rattle.report_rules.specs.pns_rules.Structure.{IsStructure}
+use Rattle.report_rules.specs.flow_rules.Net.{net_of}
+use Rattle.report_rules.specs.flow_rules.Flows.{IsFlows, cost}
+use Rattle.report_rules.specs.flow_rules.Steps.{AreInRange}
+use Rattle.report_rules.specs.flow_rules.CostSteps.{cost_steps}
+use Rattle.report_rules.specs.tree_rules.Claim.{Network, size_in, IsFeasible}
 use Rattle.report_rules.specs.declared.spot.Spot.{Spot}
 use Rattle.report_rules.specs.declared.side.Side.{Side}
 use Rattle.report_rules.specs.Spot.{KnowsSpot, value_at, valued, IsAllowedValue, value_on}

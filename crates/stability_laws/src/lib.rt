@@ -12,6 +12,8 @@ ghost use Rattle.stability_laws.specs.Laws.{ValuedIsValid, PresentIsAllowed, Val
 ghost use Rattle.stability_laws.specs.Laws.{ShapeStays, FeasibleStays, CostIsALine, BestBetween};
 ghost use Rattle.stability_laws.specs.Laws.{RisesEnough, BestAway};
 
+pub use report_rules::{Place, Side, Sort, Spot, SpotKind, sums_are_last};
+
 /// An allowed value in the spot leaves a problem valid.
 pub fn valued_is_valid()
     ensures { ValuedIsValid }

@@ -1,20 +1,20 @@
 -- A claim whose tree is accepted is best.
 use Rattle.std.proofs.Common.{◌≡◌, false, true, Bool, ℕ, List, inl, inr, subst}
-use Rattle.problem_rules.specs.Problem.{Problem}
-use Rattle.problem_rules.specs.Validity.{IsValid}
-use Rattle.tree_rules.specs.Claim.{Claim, network, infeasible, unknown}
-use Rattle.tree_rules.specs.Accepted.{Tree}
-use Rattle.tree_rules.specs.Head.{HeadLine}
-use Rattle.tree_rules.specs.Headed.{head_node, IsAcceptedBy}
-use Rattle.tree_laws.specs.HeadLaws.{AcceptedByIsOptimal, AcceptedByHasFlows}
-use Rattle.studio_rules.specs.Reading.{TwoFilesSay}
-use Rattle.studio_rules.specs.HeadedFile.{OnHeaded}
-use Rattle.text_rules.specs.State.{ShelfState, OutputsState}
-use Rattle.studio_rules.specs.Ending.{Ends}
-use Rattle.studio_rules.specs.declared.status.Status.{Status}
-use Rattle.studio_rules.specs.declared.status.Status.TheVariants.{Done}
-use Rattle.studio_rules.specs.Check.{CheckWork}
-use Rattle.studio_rules.specs.Best.{IsBest, FilesClaimBest, AcceptedIsBest}
+use Rattle.text_lines.specs.problem_rules.Problem.{Problem}
+use Rattle.text_lines.specs.problem_rules.Validity.{IsValid}
+use Rattle.cert_check.specs.tree_rules.Claim.{Claim, network, infeasible, unknown}
+use Rattle.cert_check.specs.tree_rules.Accepted.{Tree}
+use Rattle.cert_check.specs.tree_rules.Head.{HeadLine}
+use Rattle.cert_check.specs.tree_rules.Headed.{head_node, IsAcceptedBy}
+use Rattle.cert_check.specs.tree_laws.HeadLaws.{AcceptedByIsOptimal, AcceptedByHasFlows}
+use Rattle.command_files.specs.studio_rules.Reading.{TwoFilesSay}
+use Rattle.command_files.specs.studio_rules.HeadedFile.{OnHeaded}
+use Rattle.text_lines.specs.text_rules.State.{ShelfState, OutputsState}
+use Rattle.command_files.specs.studio_rules.Ending.{Ends}
+use Rattle.command_files.specs.studio_rules.declared.status.Status.{Status}
+use Rattle.command_files.specs.studio_rules.declared.status.Status.TheVariants.{Done}
+use Rattle.command_files.specs.studio_rules.Check.{CheckWork}
+use Rattle.command_files.specs.studio_rules.Best.{IsBest, FilesClaimBest, AcceptedIsBest}
 
 module _ (optimal : AcceptedByIsOptimal) (feasible : AcceptedByHasFlows) where
   is_best : (p : Problem) → IsValid p → (claim : Claim) (head : List HeadLine)

@@ -2,9 +2,9 @@
 use Rattle.std.proofs.Common.{◌≡◌, ◌↔◌, ℕ, zero, suc, Bool, true, false, List, [], sym, subst, inl}
 use Rattle.std.proofs.Common.{inr}
 use Rattle.std.proofs.lemmas.Bool.{false≢true, or_cases}
-use Rattle.number_sets.specs.Sets.{has, any_below, Avoids}
-use Rattle.pns_rules.specs.Shape.{Shape}
-use Rattle.pns_rules.specs.Structure.{mats, Meets, IsUnion}
+use Rattle.text_lines.specs.number_sets.Sets.{has, any_below, Avoids}
+use Rattle.cert_check.specs.pns_rules.Shape.{Shape}
+use Rattle.cert_check.specs.pns_rules.Structure.{mats, Meets, IsUnion}
 
 none_below : (n : ℕ) → any_below n (λ _. false) ≡ true → ⊥
 none_below zero e = false≢true e

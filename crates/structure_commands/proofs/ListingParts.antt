@@ -6,19 +6,20 @@ use Rattle.std.proofs.Common.{cond}
 use Rattle.std.proofs.lemmas.List.{length-append, length-take-le, take-append-drop}
 use Rattle.std.proofs.lemmas.Bool.{ltb-true, ltb-false}
 use Rattle.std.proofs.Math.Seq.{take-append_seam, get_or-append_seam, take-append-add}
-use Rattle.number_sets.specs.Sets.{has, IsRising}
-use Rattle.number_sets.specs.Options.{IsIn}
-use Rattle.problem_rules.specs.Problem.{Problem}
-use Rattle.problem_rules.specs.WellFormed.{IsWellFormed}
-use Rattle.pns_rules.specs.Shape.{shape_of}
-use Rattle.pns_rules.specs.Structure.{IsStructure}
-use Rattle.pns_rules.specs.Listing.{IsListed, IsListing}
-use Rattle.pns_rules.proofs.ListingLemmas.{listing_is_one, listing_resumes}
-use Rattle.pns_rules.specs.Tokens.{token_of}
-use Rattle.structure_list.proofs.TokenLemmas.{token_one}
-use Rattle.studio_rules.specs.Listing.{IsAfter, structure_line, more_line, last_of, last_line}
-use Rattle.studio_rules.specs.Listing.{listing_lines, ListingWork}
-use Rattle.studio_rules.specs.declared.status.Status.TheVariants.{Done}
+use Rattle.text_lines.specs.number_sets.Sets.{has, IsRising}
+use Rattle.text_lines.specs.number_sets.Options.{IsIn}
+use Rattle.text_lines.specs.problem_rules.Problem.{Problem}
+use Rattle.text_lines.specs.problem_rules.WellFormed.{IsWellFormed}
+use Rattle.cert_check.specs.pns_rules.Shape.{shape_of}
+use Rattle.cert_check.specs.pns_rules.Structure.{IsStructure}
+use Rattle.cert_check.specs.pns_rules.Listing.{IsListed, IsListing}
+use Rattle.cert_check.proofs.pns_rules.Cited.{listing_is_one, listing_resumes}
+use Rattle.cert_check.specs.pns_rules.Tokens.{token_of}
+use Rattle.cert_check.proofs.structure_list.Cited.{token_one}
+use Rattle.command_files.specs.studio_rules.Listing.{IsAfter, structure_line, more_line, last_of}
+use Rattle.command_files.specs.studio_rules.Listing.{last_line}
+use Rattle.command_files.specs.studio_rules.Listing.{listing_lines, ListingWork}
+use Rattle.command_files.specs.studio_rules.declared.status.Status.TheVariants.{Done}
 use Rattle.structure_commands.proofs.Listings.{lines_cut}
 use Rattle.structure_commands.proofs.ListingStart.{not_start, set_of}
 

@@ -1,19 +1,19 @@
 -- At which structure a listing begins.
 use Rattle.std.proofs.Common.{◌≡◌, ◌≤◌, ℕ, List, Option, Some, None, IfSome, IfNone, codes, length}
 use Rattle.std.proofs.Common.{sym, ap, subst, ◌∙◌, arith}
-use Rattle.number_sets.specs.Sets.{has, IsRising, IsSet}
-use Rattle.number_sets.proofs.SetLemmas.{below_from, AreBelow-higher}
-use Rattle.problem_rules.specs.Problem.{Problem}
-use Rattle.pns_rules.specs.Shape.{Shape, shape_of}
-use Rattle.pns_rules.specs.Structure.{IsStructure}
-use Rattle.pns_rules.specs.Listing.{IsListing}
-use Rattle.pgraph.specs.Tables.{Tables, shape}
-use Rattle.pns_rules.specs.Tokens.{token_of}
-use Rattle.structure_list.specs.Rest.{Rest, IsToCome}
-use Rattle.structure_list.proofs.TokenLemmas.{token_one, token_has_form}
-use Rattle.studio_rules.specs.Listing.{IsAfter, IsBadToken, ListingWork}
+use Rattle.text_lines.specs.number_sets.Sets.{has, IsRising, IsSet}
+use Rattle.text_lines.proofs.number_sets.Cited.{below_from, AreBelow-higher}
+use Rattle.text_lines.specs.problem_rules.Problem.{Problem}
+use Rattle.cert_check.specs.pns_rules.Shape.{Shape, shape_of}
+use Rattle.cert_check.specs.pns_rules.Structure.{IsStructure}
+use Rattle.cert_check.specs.pns_rules.Listing.{IsListing}
+use Rattle.cert_check.specs.pgraph.Tables.{Tables, shape}
+use Rattle.cert_check.specs.pns_rules.Tokens.{token_of}
+use Rattle.cert_check.specs.structure_list.Rest.{Rest, IsToCome}
+use Rattle.cert_check.proofs.structure_list.Cited.{token_one, token_has_form}
+use Rattle.command_files.specs.studio_rules.Listing.{IsAfter, IsBadToken, ListingWork}
 use Rattle.structure_commands.specs.Listing.{RestSays}
-use Rattle.studio_rules.specs.declared.status.Status.{Status}
+use Rattle.command_files.specs.studio_rules.declared.status.Status.{Status}
 
 pub not_start : (word s : List ℕ) → word ≡ token_of s → word ≡ codes "start" → ⊥
 not_start word s e h = let five = ap length h in let long =

@@ -8,18 +8,20 @@ use Rattle.std.proofs.lemmas.List.{map-append, length-append, take_all}
 use Rattle.std.proofs.lemmas.Bool.{le-ltb, lt-ltb}
 use Rattle.std.proofs.lemmas.Grind.{flat_map-append}
 use Rattle.std.proofs.Math.Seq.{take-append-add}
-use Rattle.text_rules.specs.Outside.{HasRisen, AppendsFront}
-use Rattle.text_rules.specs.State.{SinkState, OutputsState}
-use Rattle.problem_rules.specs.Problem.{Problem}
-use Rattle.structure_list.specs.Rest.{Rest, IsToCome}
-use Rattle.studio_rules.specs.Lines.{line, text_of}
-use Rattle.studio_rules.specs.Listing.{structure_line, more_line, last_of, last_line, listing_lines}
+use Rattle.text_lines.specs.text_rules.Outside.{HasRisen, AppendsFront}
+use Rattle.text_lines.specs.text_rules.State.{SinkState, OutputsState}
+use Rattle.text_lines.specs.problem_rules.Problem.{Problem}
+use Rattle.cert_check.specs.structure_list.Rest.{Rest, IsToCome}
+use Rattle.command_files.specs.studio_rules.Lines.{line, text_of}
+use Rattle.command_files.specs.studio_rules.Listing.{structure_line, more_line, last_of, last_line}
+use Rattle.command_files.specs.studio_rules.Listing.{listing_lines}
 use Rattle.structure_commands.specs.Listing.{RestSays}
-use Rattle.studio_rules.specs.Ending.{Ends, Tells, Only, OrMemory}
-use Rattle.studio_rules.specs.declared.status.Status.{Status}
-use Rattle.studio_rules.specs.declared.status.Status.TheVariants.{Done, WriteFault, Memory}
-use Rattle.command_files.proofs.Ending.{GoesOut, Ends-after, only_in, only_or_memory_in}
-use Rattle.command_files.proofs.Put.{Ends-stopped}
+use Rattle.command_files.specs.studio_rules.Ending.{Ends, Tells, Only, OrMemory}
+use Rattle.command_files.specs.studio_rules.declared.status.Status.{Status}
+use Rattle.command_files.specs.studio_rules.declared.status.Status.TheVariants.{Done, WriteFault}
+use Rattle.command_files.specs.studio_rules.declared.status.Status.TheVariants.{Memory}
+use Rattle.command_files.proofs.Cited.{GoesOut, Ends-after, only_in, only_or_memory_in}
+use Rattle.command_files.proofs.Cited.{Ends-stopped}
 
 pub last_of-push : (ss : List (List ℕ)) (s : List ℕ) → last_of (ss ++ s ∷ []) ≡ s
 last_of-push [] s = refl

@@ -7,11 +7,12 @@ use Rattle.std.specs.Str.{bytes_eq}
 use Rattle.std.proofs.lemmas.Bool.{or_cases}
 use Rattle.std.proofs.lemmas.List.{length-map}
 use Rattle.std.proofs.lemmas.List.Quantifiers.{position-Some}
-use Rattle.number_sets.specs.Sets.{has, with_number}
-use Rattle.number_sets.proofs.SetLemmas.{has-with_number}
-use Rattle.problem_rules.specs.Problem.{Problem, OperatingUnit, unit_names}
-use Rattle.studio_rules.specs.Axioms.{is_stranger, first_stranger, is_name_of, units_named}
-use Rattle.studio_rules.specs.Axioms.{number_of}
+use Rattle.text_lines.specs.number_sets.Sets.{has, with_number}
+use Rattle.text_lines.proofs.number_sets.Cited.{has-with_number}
+use Rattle.text_lines.specs.problem_rules.Problem.{Problem, OperatingUnit, unit_names}
+use Rattle.command_files.specs.studio_rules.Axioms.{is_stranger, first_stranger, is_name_of}
+use Rattle.command_files.specs.studio_rules.Axioms.{units_named}
+use Rattle.command_files.specs.studio_rules.Axioms.{number_of}
 
 module _ (p : Problem) (names : List (List ℕ)) (k : ℕ) (there : k < length names) where
   pub stranger_here : is_stranger p (get_or names k []) ≡ true

@@ -4,8 +4,8 @@ use Rattle.std.proofs.Common.{◌++◌, length, get_or, drop, refl, sym, ap, app
 use Rattle.std.proofs.Common.{length-append, drop-cons, codes}
 use Rattle.std.specs.Prelude.{flat_map, filter, if◌then◌else◌}
 use Rattle.std.proofs.lemmas.Grind.{flat_map-append}
-use Rattle.pns_problem.specs.Printing.{printed}
-use Rattle.report_rules.specs.Lint.{clean_or}
+use Rattle.cert_check.specs.pns_problem.Printing.{printed}
+use Rattle.command_files.specs.report_rules.Lint.{clean_or}
 
 printed-append : (xs ys : List (List ℕ)) → printed (xs ++ ys) ≡ printed xs ++ printed ys
 printed-append xs ys = flat_map-append (λ line. line ++ 10 ∷ []) xs ys

@@ -1,8 +1,8 @@
 -- A problem with the units of its maximal structure, and the items that it has.
 use Rattle.std.specs.Prelude.{ℕ, ◌<◌, List, length}
-use Rattle.problem_rules.specs.Problem.{Problem}
-use Rattle.report_rules.specs.declared.item.Item.{Item}
-use Rattle.report_rules.specs.declared.item.Item.TheVariants as items
+use Rattle.text_lines.specs.problem_rules.Problem.{Problem}
+use Rattle.command_files.specs.report_rules.declared.item.Item.{Item}
+use Rattle.command_files.specs.report_rules.declared.item.Item.TheVariants as items
 
 pub record Judged : Type 0 where
   pub problem : Problem

@@ -1,10 +1,10 @@
 -- The lines of a listing from the place that the code has reached.
 use Rattle.std.specs.Prelude.{◌≡◌, ℕ, List}
-use Rattle.problem_rules.specs.Problem.{Problem}
-use Rattle.studio_rules.specs.Listing.{listing_lines}
-use Rattle.structure_list.specs.Rest.{Rest, IsToCome}
-use Rattle.studio_rules.specs.declared.status.Status.{Status}
-use Rattle.studio_rules.specs.declared.status.Status.TheVariants.{Done}
+use Rattle.text_lines.specs.problem_rules.Problem.{Problem}
+use Rattle.command_files.specs.studio_rules.Listing.{listing_lines}
+use Rattle.cert_check.specs.structure_list.Rest.{Rest, IsToCome}
+use Rattle.command_files.specs.studio_rules.declared.status.Status.{Status}
+use Rattle.command_files.specs.studio_rules.declared.status.Status.TheVariants.{Done}
 
 -- what is printed of a listing from this place on
 abbrev pub RestSays : Problem → ℕ → Rest → Status → List (List ℕ) → Type 0

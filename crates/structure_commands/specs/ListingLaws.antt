@@ -1,9 +1,9 @@
 -- A law over the listing that `list` prints.
 use Rattle.std.specs.Prelude.{◌<◌, ◌+◌, ◌++◌, ℕ, List, [], ◌∷◌, codes}
-use Rattle.problem_rules.specs.Problem.{Problem}
-use Rattle.problem_rules.specs.WellFormed.{IsWellFormed}
-use Rattle.studio_rules.specs.Listing.{ListingWork}
-use Rattle.studio_rules.specs.declared.status.Status.TheVariants.{Done}
+use Rattle.text_lines.specs.problem_rules.Problem.{Problem}
+use Rattle.text_lines.specs.problem_rules.WellFormed.{IsWellFormed}
+use Rattle.command_files.specs.studio_rules.Listing.{ListingWork}
+use Rattle.command_files.specs.studio_rules.declared.status.Status.TheVariants.{Done}
 
 -- A listing may be printed in two parts, the second after the last token of the first. The first
 -- part without its line `more`, and then the second, are the listing printed at once.

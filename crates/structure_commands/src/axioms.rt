@@ -1,25 +1,21 @@
 //! The command `axioms`.
 ghost use Rattle.std.specs.Prelude.{◌≡◌, ◌<◌, ◌≤◌, ◌||◌, ℕ, None, IfOk, length, option_map, true};
-ghost use Rattle.number_sets.specs.Sets.{has};
-ghost use Rattle.studio_rules.specs.Lines.{line};
-ghost use Rattle.studio_rules.specs.Reading.{FileSays};
-ghost use Rattle.studio_rules.specs.Axioms.{AxiomsWork, NamesSay, VerdictSays, axiom_word};
-ghost use Rattle.studio_rules.specs.Axioms.{breaks_line, place_name, is_stranger, first_stranger};
-ghost use Rattle.studio_rules.specs.Axioms.{is_name_of, units_named};
-ghost use Rattle.studio_rules.specs.Ending.{Ends, Tells, Only, OrMemory};
-ghost use Rattle.studio_rules.specs.Keeps.{Keeps};
-ghost use Rattle.studio_rules.specs.declared.status.Status.TheVariants.{Refused};
+ghost use Rattle.text_lines.specs.number_sets.Sets.{has};
+ghost use Rattle.command_files.specs.studio_rules.Lines.{line};
+ghost use Rattle.command_files.specs.studio_rules.Reading.{FileSays};
+ghost use Rattle.command_files.specs.studio_rules.Axioms.{AxiomsWork, NamesSay, VerdictSays};
+ghost use Rattle.command_files.specs.studio_rules.Axioms.{axiom_word};
+ghost use Rattle.command_files.specs.studio_rules.Axioms.{breaks_line, place_name, is_stranger};
+ghost use Rattle.command_files.specs.studio_rules.Axioms.{first_stranger};
+ghost use Rattle.command_files.specs.studio_rules.Axioms.{is_name_of, units_named};
+ghost use Rattle.command_files.specs.studio_rules.Ending.{Ends, Tells, Only, OrMemory};
+ghost use Rattle.command_files.specs.studio_rules.Keeps.{Keeps};
+ghost use Rattle.command_files.specs.studio_rules.declared.status.Status.TheVariants.{Refused};
 
-use command_files::problem_of;
+use cert_check::{Axiom, Graph, Problem, UnitSet, Verdict};
 use command_files::say::{say, say_memory};
-use pgraph::Graph;
-use pns_io::{Outputs, Shelf, Sink};
-use pns_problem::Problem;
-use pns_rules::{Axiom, Verdict};
+use command_files::{Outputs, Shelf, Sink, Status, UnitNames, problem_of};
 use std::alloc::{AllocError, Global};
-use studio_rules::Status;
-use studio_words::UnitNames;
-use unit_sets::UnitSet;
 
 fn axiom_word(broken: Axiom) -> &'static str
     ensures { result.now ≡ axiom_word broken }

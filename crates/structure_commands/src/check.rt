@@ -1,26 +1,22 @@
 //! The command `check`.
 ghost use Rattle.std.specs.Prelude.{◌≡◌, ◌<◌, ◌^◌, length};
-ghost use Rattle.tree_reading.specs.Said.{said_by};
-ghost use Rattle.studio_rules.specs.Reading.{TwoFilesSay};
-ghost use Rattle.studio_rules.specs.HeadedFile.{OnHeaded};
-ghost use Rattle.studio_rules.specs.Check.{CheckWork};
-ghost use Rattle.studio_rules.specs.Best.{AcceptedIsBest, FilesClaimBest};
-ghost use Rattle.studio_rules.specs.Ending.{Ends, Says, Tells};
-ghost use Rattle.studio_rules.specs.Keeps.{Keeps};
-ghost use Rattle.studio_rules.specs.declared.status.Status.TheVariants.{Done};
+ghost use Rattle.command_files.specs.tree_reading.Said.{said_by};
+ghost use Rattle.command_files.specs.studio_rules.Reading.{TwoFilesSay};
+ghost use Rattle.command_files.specs.studio_rules.HeadedFile.{OnHeaded};
+ghost use Rattle.command_files.specs.studio_rules.Check.{CheckWork};
+ghost use Rattle.command_files.specs.studio_rules.Best.{AcceptedIsBest, FilesClaimBest};
+ghost use Rattle.command_files.specs.studio_rules.Ending.{Ends, Says, Tells};
+ghost use Rattle.command_files.specs.studio_rules.Keeps.{Keeps};
+ghost use Rattle.command_files.specs.studio_rules.declared.status.Status.TheVariants.{Done};
 
-use cert_check::check_headed;
-use command_files::{headed_of, problem_of};
+use cert_check::{
+    Graph, HeadRefusal, Problem, Site, accepted_by_has_flows, accepted_by_is_optimal, check_headed,
+};
 use command_files::say::{say, say_memory, say_of};
-use tree_laws::{accepted_by_has_flows, accepted_by_is_optimal};
-use tree_rules::HeadRefusal;
-use pgraph::{Graph, Site};
-use pns_io::{Outputs, Shelf, Sink};
-use pns_problem::Problem;
-use command_files::{say_head, say_node, why_word};
+use command_files::{
+    Headed, Outputs, Shelf, Sink, Status, headed_of, problem_of, say_head, say_node, why_word,
+};
 use std::alloc::Global;
-use studio_rules::Status;
-use tree_reading::Headed;
 
 /// Prints that the head and the tree prove the claim, or the first line of the claim, the first
 /// line of the head, or the first node, that fails.

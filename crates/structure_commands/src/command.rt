@@ -1,17 +1,15 @@
 //! The command `lint`.
 ghost use Rattle.std.specs.Prelude.{◌≡◌, ℕ, List};
-ghost use Rattle.studio_rules.specs.Reading.{GivesProblem, TextSays};
-ghost use Rattle.studio_rules.specs.Lint.{LintWork};
-ghost use Rattle.studio_rules.specs.Ending.{Ends, Tells};
-ghost use Rattle.studio_rules.specs.Keeps.{Keeps};
+ghost use Rattle.command_files.specs.studio_rules.Reading.{GivesProblem, TextSays};
+ghost use Rattle.command_files.specs.studio_rules.Lint.{LintWork};
+ghost use Rattle.command_files.specs.studio_rules.Ending.{Ends, Tells};
+ghost use Rattle.command_files.specs.studio_rules.Keeps.{Keeps};
 
-use command_files::plant_of;
-use command_files::say::{say_memory, say_text};
 use crate::lint_text;
-use pns_io::{Outputs, Shelf, Sink};
-use pns_problem::Problem;
+use cert_check::Problem;
+use command_files::say::{say_memory, say_text};
+use command_files::{Outputs, Shelf, Sink, Status, plant_of};
 use std::alloc::Global;
-use studio_rules::Status;
 
 fn say_warnings<K: Sink, E: Sink>(
     alloc: Global,

@@ -1,18 +1,15 @@
 //! The commands `edit` and `undo`.
 ghost use Rattle.std.specs.Prelude.{◌≡◌};
-ghost use Rattle.studio_rules.specs.Reading.{TwoFilesSay};
-ghost use Rattle.studio_rules.specs.Script.{OnScript};
-ghost use Rattle.studio_rules.specs.Edits.{EditWork, UndoWork};
-ghost use Rattle.studio_rules.specs.Ending.{Ends, Says};
-ghost use Rattle.studio_rules.specs.Keeps.{Keeps};
+ghost use Rattle.command_files.specs.studio_rules.Reading.{TwoFilesSay};
+ghost use Rattle.command_files.specs.studio_rules.Script.{OnScript};
+ghost use Rattle.command_files.specs.studio_rules.Edits.{EditWork, UndoWork};
+ghost use Rattle.command_files.specs.studio_rules.Ending.{Ends, Says};
+ghost use Rattle.command_files.specs.studio_rules.Keeps.{Keeps};
 
-use command_files::{edited_of, problem_of};
-use edit_scripts::print_script;
+use cert_check::Problem;
 use command_files::say::say_made;
-use pns_io::{Outputs, Shelf, Sink};
-use pns_problem::Problem;
+use command_files::{Outputs, Shelf, Sink, Status, edited_of, print_script, problem_of};
 use std::alloc::Global;
-use studio_rules::Status;
 
 fn say_edited<F: Shelf, K: Sink, E: Sink>(
     alloc: Global,

@@ -1,10 +1,9 @@
 //! What may be odd about an exclusion.
 ghost use Rattle.std.specs.Prelude.{◌≡◌, ◌<◌, ℕ, true};
-ghost use Rattle.number_sets.specs.Sets.{has};
-ghost use Rattle.report_rules.specs.Warned.{is_alone};
+ghost use Rattle.text_lines.specs.number_sets.Sets.{has};
+ghost use Rattle.command_files.specs.report_rules.Warned.{is_alone};
 
-use pns_problem::Exclusion;
-use unit_sets::UnitSet;
+use cert_check::{Exclusion, UnitSet};
 
 /// Whether at most one of its units is in the set.
 pub(crate) fn is_alone(units: UnitSet, exclusion: &Exclusion) -> bool

@@ -1,34 +1,30 @@
 //! The command `flows`.
 ghost use Rattle.std.specs.Prelude.{◌≡◌, ◌≤◌, ◌<◌, ◌++◌, ◌∷◌, [], None, true};
-ghost use Rattle.number_sets.specs.Sets.{has};
-ghost use Rattle.pns_rules.specs.Shape.{shape_of};
-ghost use Rattle.pns_rules.specs.Structure.{IsStructure};
-ghost use Rattle.pgraph.specs.Tables.{shape};
-ghost use Rattle.tree_rules.specs.Known.{AreUnits, KnowsEnd};
-ghost use Rattle.branch_tree.specs.View.{end_of};
-ghost use Rattle.tree_rules.specs.Claim as claims;
-ghost use Rattle.tree_text_rules.specs.Spelling.{network_lines, claim_lines, end_with_sets};
-ghost use Rattle.tree_text.specs.Prints.{Prints};
+ghost use Rattle.text_lines.specs.number_sets.Sets.{has};
+ghost use Rattle.cert_check.specs.pns_rules.Shape.{shape_of};
+ghost use Rattle.cert_check.specs.pns_rules.Structure.{IsStructure};
+ghost use Rattle.cert_check.specs.pgraph.Tables.{shape};
+ghost use Rattle.cert_check.specs.tree_rules.Known.{AreUnits, KnowsEnd};
+ghost use Rattle.cert_check.specs.branch_tree.View.{end_of};
+ghost use Rattle.cert_check.specs.tree_rules.Claim as claims;
+ghost use Rattle.cert_check.specs.tree_text_rules.Spelling.{network_lines, claim_lines};
+ghost use Rattle.cert_check.specs.tree_text_rules.Spelling.{end_with_sets};
+ghost use Rattle.command_files.specs.tree_text.Prints.{Prints};
 ghost use Rattle.flow_evaluator.specs.Answers.{AnswersFor};
-ghost use Rattle.studio_rules.specs.Reading.{FileSays};
-ghost use Rattle.studio_rules.specs.Flows.{FlowsWork, FlowNamesSay, FlowsSay};
-ghost use Rattle.studio_rules.specs.Ending.{Ends, Tells};
-ghost use Rattle.studio_rules.specs.Keeps.{Keeps};
+ghost use Rattle.command_files.specs.studio_rules.Reading.{FileSays};
+ghost use Rattle.command_files.specs.studio_rules.Flows.{FlowsWork, FlowNamesSay, FlowsSay};
+ghost use Rattle.command_files.specs.studio_rules.Ending.{Ends, Tells};
+ghost use Rattle.command_files.specs.studio_rules.Keeps.{Keeps};
 
-use branch_tree::{End, Network};
-use command_files::problem_of;
-use command_files::say::{say_memory, say_printed};
-use pgraph::{Graph, Site};
-use pns_io::{Outputs, Shelf, Sink};
-use pns_problem::Problem;
-use pns_rules::{Axiom, Verdict};
-use std::alloc::Global;
 use crate::axioms::{first_stranger, say_breaks, say_verdict, units_named};
+use cert_check::{Axiom, End, Graph, Network, Problem, Site, UnitSet, Verdict};
+use command_files::say::{say_memory, say_printed};
+use command_files::{
+    Outputs, PrintFault, Shelf, Sink, Status, UnitNames, print_end, print_network, print_place,
+    problem_of,
+};
 use flow_evaluator::{StructureFlows, flows_of};
-use studio_rules::Status;
-use studio_words::UnitNames;
-use tree_text::{PrintFault, print_end, print_network, print_place};
-use unit_sets::UnitSet;
+use std::alloc::Global;
 
 // The lines of a network, and the line of its bound.
 fn print_least<K: Sink>(

@@ -1,18 +1,18 @@
 //! The items that lines are of.
 ghost use Rattle.std.specs.Prelude.{◌≡◌, ◌<◌, ◌≤◌, IfSome, length, option_map};
-ghost use Rattle.problem_rules.specs.Problem.{material_names, unit_names, exclusion_names};
-ghost use Rattle.problem_rules.specs.Problem as rules;
-ghost use Rattle.problem_rules.specs.Names.{is_among};
-ghost use Rattle.text_rules.specs.Line.{head_of};
+ghost use Rattle.text_lines.specs.problem_rules.Problem.{material_names, unit_names};
+ghost use Rattle.text_lines.specs.problem_rules.Problem.{exclusion_names};
+ghost use Rattle.text_lines.specs.problem_rules.Problem as rules;
+ghost use Rattle.text_lines.specs.problem_rules.Names.{is_among};
+ghost use Rattle.text_lines.specs.text_rules.Line.{head_of};
 ghost use Rattle.text_lines.specs.View.{texts};
-ghost use Rattle.report_rules.specs.Item.{number_of, rates_item, item_at};
+ghost use Rattle.command_files.specs.report_rules.Item.{number_of, rates_item, item_at};
 ghost use Rattle.structure_commands.specs.Judged.{IsKnown};
 
 use crate::line::Line;
-use report_rules::Item;
-use pns_problem::{Exclusion, Material, OperatingUnit, Problem};
+use cert_check::{Exclusion, Material, OperatingUnit, Problem, Section};
+use command_files::Item;
 use text_lines::name::is_among;
-use text_rules::Section;
 
 // The number of the material of this name.
 fn material_number(materials: &[Material], name: &[u8]) -> Option<u32>

@@ -42,5 +42,14 @@ mod text;
 mod unit;
 mod words;
 
+pub use cert_check::{
+    claim_has_one_fault, empty_head_is_none, one_fault, open_leaves_decide, tree_has_one_fault,
+    tree_has_one_fault_by, valid_is_proper, valid_is_well_formed,
+};
 pub use command::lint;
+pub use command_files::{
+    Command, Effort, Failed, FileShelf, MemShelf, MemSink, NoWatch, OutSink, Outputs, Progress,
+    Shelf, Sink, Status, Watch, canonical_reads, code_of, command_of, expanded_is_valid,
+    printed_scripts_read, say, scripts_are_undone, usage,
+};
 pub use text::lint_text;

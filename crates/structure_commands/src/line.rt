@@ -1,17 +1,17 @@
 //! The lines of a text that have a meaning.
 ghost use Rattle.std.specs.Prelude.{◌≡◌, ◌<◌, ◌+◌, ◌-◌, ◌^◌, ◌++◌, ◌∷◌, ℕ, List, true, IfOk};
 ghost use Rattle.std.specs.Prelude.{length};
-ghost use Rattle.text_rules.specs.Line.{is_meant, head_of, heads_at, lines_of, meant_of};
-ghost use Rattle.text_rules.specs.Fault.{first_is_type};
+ghost use Rattle.text_lines.specs.text_rules.Line.{is_meant, head_of, heads_at, lines_of, meant_of};
+ghost use Rattle.text_lines.specs.text_rules.Fault.{first_is_type};
 ghost use Rattle.text_lines.specs.View.{texts};
 ghost use Rattle.structure_commands.specs.Meant.{meant_from};
 
+use cert_check::Section;
 use std::alloc::{AllocError, Global};
 use std::marker::Model;
 use text_lines::line::{head_of, without_mark};
 use text_lines::lines::{Drops, Lines};
 use text_lines::section::{is_header, section_after};
-use text_rules::Section;
 
 /// A line with its number and its section. Contracts see it as a placed line that is no header.
 #[derive(Drop)]
@@ -23,7 +23,7 @@ pub(crate) struct Line<'a> {
 
 impl<'a> Model for Line<'a> {
     ghost use Rattle.std.specs.Prelude.{false};
-    ghost use Rattle.text_rules.specs.Line.{Placed};
+    ghost use Rattle.text_lines.specs.text_rules.Line.{Placed};
 
     ghost Value = { Placed };
 

@@ -1,36 +1,32 @@
 //! The command `list`.
 ghost use Rattle.std.specs.Prelude.{◌≡◌, ◌≤◌, ◌<◌, ◌++◌, ◌∷◌, ◌↔◌, [], ℕ, List, Some, IfOk, IfSome};
 ghost use Rattle.std.specs.Prelude.{IfNone, OnOk, OnErr, length, codes};
-ghost use Rattle.number_sets.specs.Sets.{has, IsSet};
+ghost use Rattle.text_lines.specs.number_sets.Sets.{has, IsSet};
 ghost use Rattle.std.specs.Io.KnownBytes.{Appends};
-ghost use Rattle.text_rules.specs.Outside.{HasRisen, AppendsFront};
-ghost use Rattle.pns_rules.specs.Shape.{shape_of};
-ghost use Rattle.pns_rules.specs.Tokens.{digit, token_of};
-ghost use Rattle.structure_list.specs.Rest.{IsToCome};
-ghost use Rattle.studio_rules.specs.Lines.{line};
-ghost use Rattle.studio_rules.specs.Reading.{FileSays};
-ghost use Rattle.studio_rules.specs.Listing.{ListingWork, IsAfter, IsBadToken, structure_line};
-ghost use Rattle.studio_rules.specs.Listing.{more_line};
+ghost use Rattle.text_lines.specs.text_rules.Outside.{HasRisen, AppendsFront};
+ghost use Rattle.cert_check.specs.pns_rules.Shape.{shape_of};
+ghost use Rattle.cert_check.specs.pns_rules.Tokens.{digit, token_of};
+ghost use Rattle.cert_check.specs.structure_list.Rest.{IsToCome};
+ghost use Rattle.command_files.specs.studio_rules.Lines.{line};
+ghost use Rattle.command_files.specs.studio_rules.Reading.{FileSays};
+ghost use Rattle.command_files.specs.studio_rules.Listing.{ListingWork, IsAfter, IsBadToken};
+ghost use Rattle.command_files.specs.studio_rules.Listing.{structure_line};
+ghost use Rattle.command_files.specs.studio_rules.Listing.{more_line};
 ghost use Rattle.structure_commands.specs.Listing.{RestSays};
-ghost use Rattle.studio_rules.specs.Ending.{Ends, Tells, Only, OrMemory};
-ghost use Rattle.studio_rules.specs.Keeps.{Keeps};
-ghost use Rattle.studio_rules.specs.declared.status.Status.TheVariants.{Done, BadToken};
+ghost use Rattle.command_files.specs.studio_rules.Ending.{Ends, Tells, Only, OrMemory};
+ghost use Rattle.command_files.specs.studio_rules.Keeps.{Keeps};
+ghost use Rattle.command_files.specs.studio_rules.declared.status.Status.TheVariants.{Done};
+ghost use Rattle.command_files.specs.studio_rules.declared.status.Status.TheVariants.{BadToken};
 
-use command_files::problem_of;
+use cert_check::{Graph, OpenFault, Problem, StructureList, UnitSet, print_token, read_token};
 use command_files::line::push_unit_names;
 use command_files::outputs::put_answer;
 use command_files::say::{say, say_memory, say_of, tell};
-use structure_list::Steps;
-use studio_words::bad_token;
-use pgraph::Graph;
-use pns_io::{Failed, Outputs, Shelf, Sink};
-use pns_problem::Problem;
+use command_files::{Failed, Outputs, Shelf, Sink, Status, bad_token, problem_of};
+use flow_evaluator::Steps;
 use std::alloc::{AllocError, Global};
 use std::marker::Brand;
 use std::sync::ledger::{Blank, Ledger};
-use structure_list::{OpenFault, StructureList, print_token, read_token};
-use studio_rules::Status;
-use unit_sets::UnitSet;
 
 // Gives the next structure. It also counts viability tests, which nobody reads.
 fn next_counted<L: Ledger>(blank: Blank, list: &mut StructureList<'_>) -> Option<UnitSet>

@@ -1,16 +1,15 @@
 //! The command `make`.
 ghost use Rattle.std.specs.Prelude.{◌≡◌, ◌≤◌, IfOk};
-ghost use Rattle.text_rules.specs.Canonical.{canonical_lines};
-ghost use Rattle.problem_rules.specs.Generated.{generated};
-ghost use Rattle.studio_rules.specs.Lines.{text_of};
-ghost use Rattle.studio_rules.specs.Make.{MakeWork};
-ghost use Rattle.studio_rules.specs.Ending.{Ends, Tells};
+ghost use Rattle.text_lines.specs.text_rules.Canonical.{canonical_lines};
+ghost use Rattle.text_lines.specs.problem_rules.Generated.{generated};
+ghost use Rattle.command_files.specs.studio_rules.Lines.{text_of};
+ghost use Rattle.command_files.specs.studio_rules.Make.{MakeWork};
+ghost use Rattle.command_files.specs.studio_rules.Ending.{Ends, Tells};
 
+use cert_check::generate;
 use command_files::say::say_made;
-use pns_problem::generate;
-use pns_io::{Outputs, Sink};
+use command_files::{Outputs, Sink, Status};
 use std::alloc::{AllocError, Global};
-use studio_rules::Status;
 
 fn made_text(alloc: Global, number: u64, units: u64) -> Result<Vec<u8>, AllocError>
     requires some { 1 ≤ units }

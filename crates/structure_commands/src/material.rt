@@ -1,10 +1,10 @@
 //! What may be odd about a material.
 ghost use Rattle.std.specs.Prelude.{◌≡◌};
-ghost use Rattle.problem_rules.specs.Problem.{is_raw_material, is_product};
-ghost use Rattle.pns_problem.specs.Kind.{kind_of};
-ghost use Rattle.report_rules.specs.Warned.{has_no_demand, is_free_raw, has_no_limit};
+ghost use Rattle.text_lines.specs.problem_rules.Problem.{is_raw_material, is_product};
+ghost use Rattle.cert_check.specs.pns_problem.Kind.{kind_of};
+ghost use Rattle.command_files.specs.report_rules.Warned.{has_no_demand, is_free_raw, has_no_limit};
 
-use pns_problem::{Kind, Material};
+use cert_check::{Kind, Material};
 
 /// The bound of what has none, in millionths.
 pub(crate) const NO_BOUND: i64 = 1_000_000_000_000_000;

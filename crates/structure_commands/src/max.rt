@@ -1,26 +1,21 @@
 //! The command `max`.
 ghost use Rattle.std.specs.Prelude.{◌≡◌, ◌≤◌, ◌<◌, ◌++◌, ℕ, IfOk, length, true};
-ghost use Rattle.number_sets.specs.Sets.{has};
-ghost use Rattle.pns_rules.specs.Shape.{shape_of};
-ghost use Rattle.pns_rules.specs.Structure.{mats};
-ghost use Rattle.pgraph.specs.Tables.{shape};
-ghost use Rattle.studio_rules.specs.Lines.{line};
-ghost use Rattle.studio_rules.specs.Reading.{FileSays};
-ghost use Rattle.studio_rules.specs.Max.{MaxWork, units_line, materials_line};
-ghost use Rattle.studio_rules.specs.Ending.{Ends, Tells, Only, OrMemory};
-ghost use Rattle.studio_rules.specs.Keeps.{Keeps};
-ghost use Rattle.studio_rules.specs.declared.status.Status.TheVariants.{Done};
+ghost use Rattle.text_lines.specs.number_sets.Sets.{has};
+ghost use Rattle.cert_check.specs.pns_rules.Shape.{shape_of};
+ghost use Rattle.cert_check.specs.pns_rules.Structure.{mats};
+ghost use Rattle.cert_check.specs.pgraph.Tables.{shape};
+ghost use Rattle.command_files.specs.studio_rules.Lines.{line};
+ghost use Rattle.command_files.specs.studio_rules.Reading.{FileSays};
+ghost use Rattle.command_files.specs.studio_rules.Max.{MaxWork, units_line, materials_line};
+ghost use Rattle.command_files.specs.studio_rules.Ending.{Ends, Tells, Only, OrMemory};
+ghost use Rattle.command_files.specs.studio_rules.Keeps.{Keeps};
+ghost use Rattle.command_files.specs.studio_rules.declared.status.Status.TheVariants.{Done};
 
-use command_files::problem_of;
+use cert_check::{Graph, MatSet, Problem, UnitSet, maximal};
 use command_files::line::{push_material_names, push_unit_names};
 use command_files::say::{say, say_both, say_memory};
-use structure_list::maximal;
-use pgraph::Graph;
-use pns_io::{Outputs, Shelf, Sink};
-use pns_problem::Problem;
+use command_files::{Outputs, Shelf, Sink, Status, problem_of};
 use std::alloc::{AllocError, Global};
-use studio_rules::Status;
-use unit_sets::{MatSet, UnitSet};
 
 fn units_line(alloc: Global, problem: &Problem, set: UnitSet) -> Result<Vec<u8>, AllocError>
     requires { length problem.now.units ≤ 128 }

@@ -1,19 +1,16 @@
 //! The command `migrate`.
 ghost use Rattle.std.specs.Prelude.{◌≡◌, ◌≤◌};
-ghost use Rattle.studio_rules.specs.Reading.{FileSays};
-ghost use Rattle.studio_rules.specs.Migrate.{MigrateWork};
-ghost use Rattle.studio_rules.specs.Ending.{Ends, Tells};
-ghost use Rattle.studio_rules.specs.Keeps.{Keeps};
+ghost use Rattle.command_files.specs.studio_rules.Reading.{FileSays};
+ghost use Rattle.command_files.specs.studio_rules.Migrate.{MigrateWork};
+ghost use Rattle.command_files.specs.studio_rules.Ending.{Ends, Tells};
+ghost use Rattle.command_files.specs.studio_rules.Keeps.{Keeps};
 
-use command_files::problem_of;
-use edit_scripts::print_script;
+use cert_check::Problem;
 use command_files::say::{say_made, say_memory, tell, tell_with};
-use studio_words::{has_payout, out_of_range};
-use pns_edits::MigrateFault;
-use pns_io::{Outputs, Shelf, Sink};
-use pns_problem::Problem;
+use command_files::{
+    MigrateFault, Outputs, Shelf, Sink, Status, has_payout, out_of_range, print_script, problem_of,
+};
 use std::alloc::Global;
-use studio_rules::Status;
 
 fn say_migration<K: Sink, E: Sink>(
     alloc: Global,
@@ -24,7 +21,7 @@ fn say_migration<K: Sink, E: Sink>(
     requires { (1 ≤ years) × (years ≤ 100) }
     ensures { Ends (Tells (MigrateWork years problem.now)) out.old out.new result }
 {
-    match pns_edits::migrate(alloc, problem, years as u32) {
+    match command_files::migrate(alloc, problem, years as u32) {
         Ok(script) => say_made(out, print_script(alloc, &script)),
         Err(MigrateFault::HasPayout) => {
             let notes = has_payout(alloc);

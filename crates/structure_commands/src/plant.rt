@@ -1,26 +1,25 @@
 //! A problem with its maximal structure, and what is odd about its items.
 ghost use Rattle.std.specs.Prelude.{◌≡◌, ◌<◌, ℕ, true, false, IfOk, length};
-ghost use Rattle.number_sets.specs.Sets.{has};
-ghost use Rattle.problem_rules.specs.Problem.{material_at, unit_at, exclusion_at};
-ghost use Rattle.pns_rules.specs.Shape.{shape_of};
-ghost use Rattle.pns_rules.specs.Structure.{IsUnion};
-ghost use Rattle.pgraph.specs.Tables.{shape};
-ghost use Rattle.report_rules.specs.Warned.{has_twin, material_stands, unit_stands, rates_stand};
-ghost use Rattle.report_rules.specs.Warned.{exclusion_stands};
-ghost use Rattle.report_rules.specs.Item.{name_of, stands};
+ghost use Rattle.text_lines.specs.number_sets.Sets.{has};
+ghost use Rattle.text_lines.specs.problem_rules.Problem.{material_at, unit_at, exclusion_at};
+ghost use Rattle.cert_check.specs.pns_rules.Shape.{shape_of};
+ghost use Rattle.cert_check.specs.pns_rules.Structure.{IsUnion};
+ghost use Rattle.cert_check.specs.pgraph.Tables.{shape};
+ghost use Rattle.command_files.specs.report_rules.Warned.{has_twin, material_stands, unit_stands};
+ghost use Rattle.command_files.specs.report_rules.Warned.{rates_stand};
+ghost use Rattle.command_files.specs.report_rules.Warned.{exclusion_stands};
+ghost use Rattle.command_files.specs.report_rules.Item.{name_of, stands};
 ghost use Rattle.structure_commands.specs.Judged.{IsKnown};
 
 use crate::exclusion::is_alone;
 use crate::material::{has_no_demand, has_no_limit, is_free_raw};
 use crate::unit::{has_default_capacity, has_fine_rates, is_free, is_like_one};
-use report_rules::{Item, Warning};
-use structure_list::maximal;
-use pgraph::Graph;
-use pns_problem::{Exclusion, Material, OperatingUnit, Problem};
-use pns_rules::valid_is_proper;
+use cert_check::{
+    Exclusion, Graph, MatSet, Material, OperatingUnit, Problem, UnitSet, maximal, valid_is_proper,
+};
+use command_files::{Item, Warning};
 use std::alloc::{AllocError, Global};
 use std::marker::Model;
-use unit_sets::{MatSet, UnitSet};
 
 /// A problem, the units of its maximal structure, and their materials. Contracts see the problem
 /// and the units.
@@ -33,9 +32,9 @@ pub(crate) struct Plant<'a> {
 
 impl<'a> Model for Plant<'a> {
     ghost use Rattle.std.specs.Prelude.{◌≡◌};
-    ghost use Rattle.number_sets.specs.Sets.{has};
-    ghost use Rattle.pns_rules.specs.Shape.{shape_of};
-    ghost use Rattle.pns_rules.specs.Structure.{mats};
+    ghost use Rattle.text_lines.specs.number_sets.Sets.{has};
+    ghost use Rattle.cert_check.specs.pns_rules.Shape.{shape_of};
+    ghost use Rattle.cert_check.specs.pns_rules.Structure.{mats};
     ghost use Rattle.structure_commands.specs.Judged as specs;
 
     ghost Value = { specs.Judged };

@@ -1,23 +1,24 @@
 //! The whole text.
 ghost use Rattle.std.specs.Prelude.{◌≡◌, ◌++◌, ◌<◌, ◌-◌, ◌^◌, ℕ, Bool, List, [], false, Ok, IfOk};
 ghost use Rattle.std.specs.Prelude.{OnOk, filter, flat_map, length, string_bytes, if◌then◌else◌};
-ghost use Rattle.number_sets.specs.Sets.{has};
-ghost use Rattle.text_rules.specs.Value.{read_text};
+ghost use Rattle.text_lines.specs.number_sets.Sets.{has};
+ghost use Rattle.text_lines.specs.text_rules.Value.{read_text};
 ghost use Rattle.text_lines.specs.View.{texts};
-ghost use Rattle.pns_problem.specs.Printing.{printed};
-ghost use Rattle.pns_rules.specs.Shape.{shape_of};
-ghost use Rattle.pns_rules.specs.Structure.{IsUnion};
-ghost use Rattle.report_rules.specs.Item.{name_of, stands};
-ghost use Rattle.report_rules.specs.Lint.{first_line, warning_lines, line_lines, all_lines, clean_or};
-ghost use Rattle.report_rules.specs.Lint.{lint_lines};
+ghost use Rattle.cert_check.specs.pns_problem.Printing.{printed};
+ghost use Rattle.cert_check.specs.pns_rules.Shape.{shape_of};
+ghost use Rattle.cert_check.specs.pns_rules.Structure.{IsUnion};
+ghost use Rattle.command_files.specs.report_rules.Item.{name_of, stands};
+ghost use Rattle.command_files.specs.report_rules.Lint.{first_line, warning_lines, line_lines};
+ghost use Rattle.command_files.specs.report_rules.Lint.{all_lines, clean_or};
+ghost use Rattle.command_files.specs.report_rules.Lint.{lint_lines};
 ghost use Rattle.structure_commands.specs.Judged.{IsKnown};
 
 use crate::item::item_at;
 use crate::line::{Line, meant_lines, own_names};
 use crate::plant::Plant;
 use crate::words::{kind_word, sentence};
-use report_rules::{Item, Warning};
-use pns_problem::Problem;
+use cert_check::Problem;
+use command_files::{Item, Warning};
 use std::alloc::{AllocError, Global};
 
 /// All kinds, in the order in which those of one line are printed.

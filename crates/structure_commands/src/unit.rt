@@ -1,13 +1,15 @@
 //! What may be odd about an operating unit.
 ghost use Rattle.std.specs.Prelude.{◌≡◌, ◌<◌, length, take};
 ghost use Rattle.std.specs.List.{list_any};
-ghost use Rattle.problem_rules.specs.Problem.{rate_in};
-ghost use Rattle.report_rules.specs.Warned.{has_no_charge, has_default_capacity, is_free, are_among};
-ghost use Rattle.report_rules.specs.Warned.{same_terms, same_bounds, same_costs, are_alike, is_fine};
-ghost use Rattle.report_rules.specs.Warned.{are_fine, has_fine_rates};
+ghost use Rattle.text_lines.specs.problem_rules.Problem.{rate_in};
+ghost use Rattle.command_files.specs.report_rules.Warned.{has_no_charge, has_default_capacity};
+ghost use Rattle.command_files.specs.report_rules.Warned.{is_free, are_among};
+ghost use Rattle.command_files.specs.report_rules.Warned.{same_terms, same_bounds, same_costs};
+ghost use Rattle.command_files.specs.report_rules.Warned.{are_alike, is_fine};
+ghost use Rattle.command_files.specs.report_rules.Warned.{are_fine, has_fine_rates};
 
 use crate::material::NO_BOUND;
-use pns_problem::{OperatingUnit, Term};
+use cert_check::{OperatingUnit, Term};
 
 fn has_no_charge(unit: &OperatingUnit) -> bool
     ensures { result ≡ has_no_charge unit.now }

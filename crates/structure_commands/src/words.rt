@@ -1,8 +1,8 @@
 //! The word of each kind of warning, and the sentence that says what it means.
 ghost use Rattle.std.specs.Prelude.{◌≡◌};
-ghost use Rattle.report_rules.specs.Words.{kind_word, sentence};
+ghost use Rattle.command_files.specs.report_rules.Words.{kind_word, sentence};
 
-use report_rules::Warning;
+use command_files::Warning;
 
 /// The word for a kind of warning.
 pub(crate) fn kind_word(kind: Warning) -> &'static str

@@ -5,14 +5,14 @@ use Rattle.std.proofs.Common.{List, [], ◌∷◌, length, refl, sym, ap, ◌∙
 use Rattle.std.proofs.Common.{arith, eq-eqb, ne_eqb}
 use Rattle.std.proofs.lemmas.Bool.{or_cases, or_left, or_right, and_parts, and_from, both_ways}
 use Rattle.std.proofs.lemmas.Bool.{true_from_ne_false, false_from_ne_true, not-true}
-use Rattle.number_sets.specs.Sets.{has, kept, union, meet, minus, IsWithin, IsSet, Avoids}
-use Rattle.number_sets.proofs.SetLemmas.{has-minus, has-meet, has-union, has-kept, length-less}
-use Rattle.number_sets.proofs.SetLemmas.{length_below, same_sets, same_tests}
-use Rattle.pns_rules.specs.Shape.{Shape, IsProper}
-use Rattle.pns_rules.specs.Structure.{is_made, is_used, Meets}
-use Rattle.pns_rules.proofs.StructureLemmas.{is_made-from, is_made-some, is_made-within}
-use Rattle.pns_rules.proofs.StructureLemmas.{is_used-from, is_used-some, mats-within}
-use Rattle.pns_rules.specs.Breaks.{BreaksS2}
+use Rattle.pgraph.specs.number_sets.Sets.{has, kept, union, meet, minus, IsWithin, IsSet, Avoids}
+use Rattle.pgraph.proofs.number_sets.Cited.{has-minus, has-meet, has-union, has-kept, length-less}
+use Rattle.pgraph.proofs.number_sets.Cited.{length_below, same_sets, same_tests}
+use Rattle.pgraph.specs.pns_rules.Shape.{Shape, IsProper}
+use Rattle.pgraph.specs.pns_rules.Structure.{is_made, is_used, Meets}
+use Rattle.pgraph.proofs.pns_rules.Cited.{is_made-from, is_made-some, is_made-within, is_used-from}
+use Rattle.pgraph.proofs.pns_rules.Cited.{is_used-some, mats-within}
+use Rattle.pgraph.specs.pns_rules.Breaks.{BreaksS2}
 use Rattle.structure_list.specs.Balance.{is_to_blame}
 
 module _ (g : Shape) where

@@ -2,9 +2,9 @@
 use Rattle.std.proofs.Common.{◌≡◌, ℕ, Bool, [], List, false, refl, sym, subst₂, Less, Equal}
 use Rattle.std.proofs.Common.{Greater, Ordering}
 use Rattle.std.proofs.lemmas.Bool.{both_ways}
-use Rattle.pns_rules.specs.Shape.{Shape}
-use Rattle.pns_rules.specs.Structure.{IsStructure, IsBetween}
-use Rattle.number_sets.specs.Sets.{has}
+use Rattle.pgraph.specs.pns_rules.Shape.{Shape}
+use Rattle.pgraph.specs.pns_rules.Structure.{IsStructure, IsBetween}
+use Rattle.pgraph.specs.number_sets.Sets.{has}
 
 pub only_less : (o : Ordering) (A B C : Type 0) → (o ≡ Greater → B) → (o ≡ Equal → C) → (A → B → ⊥)
     → (A → C → ⊥) → A → o ≡ Less

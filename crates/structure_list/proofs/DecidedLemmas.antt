@@ -1,11 +1,11 @@
 -- The child of an option.
 use Rattle.std.proofs.Common.{◌≡◌, ℕ, Bool, true, false, not, ◌&&◌, ◌||◌, List, refl, ap, ap₂, ◌∙◌}
-use Rattle.number_sets.specs.Sets.{has, union, minus}
-use Rattle.number_sets.proofs.SetLemmas.{has-union, has-minus}
-use Rattle.pns_rules.specs.Shape.{Shape}
-use Rattle.pns_rules.specs.Nodes as rules
-use Rattle.pns_rules.proofs.OrderLemmas.{same_set}
-use Rattle.unit_sets.specs.declared.node.Node.{Node}
+use Rattle.pgraph.specs.number_sets.Sets.{has, union, minus}
+use Rattle.pgraph.proofs.number_sets.Cited.{has-union, has-minus}
+use Rattle.pgraph.specs.pns_rules.Shape.{Shape}
+use Rattle.pgraph.specs.pns_rules.Nodes as rules
+use Rattle.pgraph.proofs.pns_rules.Cited.{same_set}
+use Rattle.pgraph.specs.unit_sets.declared.node.Node.{Node}
 use Rattle.pgraph.specs.View.{node_of}
 
 abbrev rules_node : (ℕ → Bool) → (ℕ → Bool) → rules.Node

@@ -5,7 +5,7 @@ use Rattle.std.proofs.Common.{add-one}
 use Rattle.std.proofs.lemmas.Nat.{pow-add}
 use Rattle.std.proofs.Math.Nat.{div-div-eq-div-mul}
 use Rattle.std.proofs.Math.Pow.{pow_mono}
-use Rattle.pns_rules.specs.Tokens.{digit, digits, IsDigit}
+use Rattle.pgraph.specs.pns_rules.Tokens.{digit, digits, IsDigit}
 
 length_push : (xs : List ℕ) (x : ℕ) → length (xs ++ x ∷ []) ≡ length xs + 1
 length_push [] x = omega arith

@@ -2,11 +2,11 @@
 use Rattle.std.proofs.Common.{◌≡◌, ℕ, Bool, true, false, List, [], ◌∷◌, ◌++◌, sym, ◌∙◌, subst, inl}
 use Rattle.std.proofs.Common.{inr, Some}
 use Rattle.std.proofs.lemmas.Bool.{cases_Bool}
-use Rattle.number_sets.specs.Sets.{has}
-use Rattle.pns_rules.specs.Shape.{Shape}
-use Rattle.pns_rules.specs.Structure.{IsStructure, IsAllowed}
-use Rattle.pns_rules.specs.Trace.{IsBefore}
-use Rattle.pns_rules.proofs.OrderLemmas.{before_apart, before_not_after}
+use Rattle.pgraph.specs.number_sets.Sets.{has}
+use Rattle.pgraph.specs.pns_rules.Shape.{Shape}
+use Rattle.pgraph.specs.pns_rules.Structure.{IsStructure, IsAllowed}
+use Rattle.pgraph.specs.pns_rules.Trace.{IsBefore}
+use Rattle.pgraph.proofs.pns_rules.Cited.{before_apart, before_not_after}
 use Rattle.structure_list.specs.declared.position.Position.{Position}
 use Rattle.structure_list.specs.declared.turn.Turn.{Turn}
 use Rattle.structure_list.specs.Position.{IsTurn, IsSettled, IsWithinNode}

@@ -7,10 +7,9 @@ use Rattle.std.proofs.lemmas.Bool.{cases_Bool}
 use Rattle.std.proofs.lemmas.Nat.{leading_top}
 use Rattle.std.proofs.Math.Pow.{pow_mono}
 use Rattle.std.specs.Int.{leading_zeros, w128}
-use Rattle.number_sets.specs.Sets.{has, first, listed, mask_of, IsRising, IsSet}
-use Rattle.number_sets.proofs.SetLemmas.{below_not_had, listed-is}
-use Rattle.number_sets.proofs.MaskOrder.{listed-less}
-use Rattle.pns_rules.specs.Trace.{least_below, or_later}
+use Rattle.pgraph.specs.number_sets.Sets.{has, first, listed, mask_of, IsRising, IsSet}
+use Rattle.pgraph.proofs.number_sets.Cited.{below_not_had, listed-is, listed-less}
+use Rattle.pgraph.specs.pns_rules.Trace.{least_below, or_later}
 use Rattle.structure_list.specs.Position.{IsGreatest}
 
 -- ---- the least

@@ -4,16 +4,17 @@ use Rattle.std.proofs.Common.{◌≡◌, ◌≢◌, ℕ, ◌<◌, ◌==◌, Bool
 use Rattle.std.proofs.Common.{sym, ap, ◌∙◌, subst, inl, inr, eq-eqb, ne_eqb}
 use Rattle.std.proofs.lemmas.Bool.{and_parts, and_from, both_ways, cases_eq, cases_Bool, or_cases}
 use Rattle.std.proofs.lemmas.Bool.{true_from_ne_false, false_from_ne_true, not-true}
-use Rattle.number_sets.specs.Sets.{has, kept, union, meet, minus, IsWithin, Avoids}
-use Rattle.number_sets.proofs.SetLemmas.{has-kept, has-meet}
-use Rattle.pns_rules.specs.Shape.{Shape, IsProper}
-use Rattle.pns_rules.specs.Structure.{is_made, Meets}
-use Rattle.pns_rules.specs.Ends.{IsNever}
-use Rattle.pns_rules.proofs.StructureLemmas.{is_made-from, is_made-some, is_made-within}
-use Rattle.pns_rules.proofs.StructureLemmas.{is_used-some, is_used-within}
-use Rattle.pns_rules.specs.Breaks.{BreaksS2}
+use Rattle.pgraph.specs.number_sets.Sets.{has, kept, union, meet, minus, IsWithin, Avoids}
+use Rattle.pgraph.proofs.number_sets.Cited.{has-kept, has-meet}
+use Rattle.pgraph.specs.pns_rules.Shape.{Shape, IsProper}
+use Rattle.pgraph.specs.pns_rules.Structure.{is_made, Meets}
+use Rattle.pgraph.specs.pns_rules.Ends.{IsNever}
+use Rattle.pgraph.proofs.pns_rules.Cited.{is_made-from, is_made-some, is_made-within, is_used-some}
+use Rattle.pgraph.proofs.pns_rules.Cited.{is_used-within}
+use Rattle.pgraph.specs.pns_rules.Breaks.{BreaksS2}
 use Rattle.structure_list.specs.MaxRest.{IsKept, UsesWanted, IsRest, HasNoRest, IsStarved}
-use Rattle.structure_list.proofs.BalanceLemmas.{broken_raw, broken_other, broken_used, broken_if_raw}
+use Rattle.structure_list.proofs.BalanceLemmas.{broken_raw, broken_other, broken_used}
+use Rattle.structure_list.proofs.BalanceLemmas.{broken_if_raw}
 use Rattle.structure_list.proofs.BalanceLemmas.{broken_if_unmade, makes_what_it_uses, next_has}
 use Rattle.structure_list.proofs.BalanceLemmas.{next_within, next_keeps, same_makers, more_covers}
 use Rattle.structure_list.proofs.BalanceLemmas.{more_has, more_lost}

@@ -4,10 +4,11 @@ use Rattle.std.proofs.Common.{length, refl, sym, ap, ap₂, ◌∙◌, subst, in
 use Rattle.std.proofs.Common.{eqb-true, lt-ltb}
 use Rattle.std.proofs.lemmas.Bool.{both_ways, or_cases, or_left, or_right, and_parts, and_from}
 use Rattle.std.proofs.lemmas.Bool.{false_from_ne_true}
-use Rattle.number_sets.specs.Sets.{has, listed, with_number, IsWithin}
-use Rattle.number_sets.proofs.SetLemmas.{has-with_number, has-listed, IsRising-listed, length-less}
-use Rattle.pns_rules.specs.Shape.{Shape}
-use Rattle.unit_sets.specs.declared.node.Node.{Node}
+use Rattle.pgraph.specs.number_sets.Sets.{has, listed, with_number, IsWithin}
+use Rattle.pgraph.proofs.number_sets.Cited.{has-with_number, has-listed, IsRising-listed}
+use Rattle.pgraph.proofs.number_sets.Cited.{length-less}
+use Rattle.pgraph.specs.pns_rules.Shape.{Shape}
+use Rattle.pgraph.specs.unit_sets.declared.node.Node.{Node}
 use Rattle.structure_list.specs.Position.{IsWithinNode, with_unit, without_unit, free_count}
 
 pub has_added : (u : ℕ) (xs : List ℕ) → has (with_number u xs) u ≡ true

@@ -4,22 +4,24 @@ use Rattle.std.proofs.Common.{[], ◌∷◌, refl, sym, ap, ap₂, ◌∙◌, su
 use Rattle.std.proofs.Common.{ltb-true, Option, Some, None}
 use Rattle.std.proofs.lemmas.Bool.{both_ways, or_cases, or_left, or_right, and_parts, and_from}
 use Rattle.std.proofs.lemmas.Bool.{false_from_ne_true, not-true}
-use Rattle.number_sets.specs.Sets.{has, first, listed, with_number, union, minus, IsRising}
-use Rattle.number_sets.proofs.SetLemmas.{has-with_number, has-union, has-minus, has-listed}
-use Rattle.number_sets.proofs.SetLemmas.{listed-same, same_tests}
-use Rattle.pns_rules.specs.Shape.{Shape, IsProper}
-use Rattle.pns_rules.specs.Structure.{is_used, is_needed, makers}
-use Rattle.pns_rules.specs.Trace.{Pair, is_done, units_of, least_below, next_material}
-use Rattle.pns_rules.proofs.StructureLemmas.{is_used-from, is_used-some}
-use Rattle.pns_rules.proofs.TraceLemmas.{is_units, next_at}
-use Rattle.pns_rules.proofs.OrderLemmas.{same_set, before_at}
-use Rattle.unit_sets.specs.declared.node.Node.{Node}
+use Rattle.pgraph.specs.number_sets.Sets.{has, first, listed, with_number, union, minus, IsRising}
+use Rattle.pgraph.proofs.number_sets.Cited.{has-with_number, has-union, has-minus, has-listed}
+use Rattle.pgraph.proofs.number_sets.Cited.{listed-same}
+use Rattle.pgraph.proofs.number_sets.Cited.{same_tests}
+use Rattle.pgraph.specs.pns_rules.Shape.{Shape, IsProper}
+use Rattle.pgraph.specs.pns_rules.Structure.{is_used, is_needed, makers}
+use Rattle.pgraph.specs.pns_rules.Trace.{Pair, is_done, units_of, least_below, next_material}
+use Rattle.pgraph.proofs.pns_rules.Cited.{is_used-from, is_used-some, is_units, next_at, same_set}
+use Rattle.pgraph.proofs.pns_rules.Cited.{before_at}
+use Rattle.pgraph.specs.unit_sets.declared.node.Node.{Node}
 use Rattle.structure_list.specs.Due.{is_due}
 use Rattle.structure_list.specs.declared.position.Position.{Position}
 use Rattle.structure_list.specs.declared.turn.Turn.{Turn}
-use Rattle.structure_list.specs.Position.{IsWithinNode, with_unit, without_unit, makes_it, IsPosition}
+use Rattle.structure_list.specs.Position.{IsWithinNode, with_unit, without_unit, makes_it}
+use Rattle.structure_list.specs.Position.{IsPosition}
 use Rattle.structure_list.specs.Position.{IsTurn, IsSettled, IsGreatest, undone_count}
-use Rattle.structure_list.proofs.NodeLemmas.{has_added, has_more, has_either, wider_in, wider_out, fewer}
+use Rattle.structure_list.proofs.NodeLemmas.{has_added, has_more, has_either, wider_in, wider_out}
+use Rattle.structure_list.proofs.NodeLemmas.{fewer}
 use Rattle.structure_list.proofs.GreatestLemmas.{first-least}
 
 abbrev pub position_of : Node → List ℕ → List ℕ → Option ℕ → Position

@@ -7,11 +7,11 @@ use Rattle.std.proofs.lemmas.List.{length_push}
 use Rattle.std.proofs.lemmas.List.Sums.{sum_by_push}
 use Rattle.std.proofs.Math.Pow.{pow_mono}
 use Rattle.std.proofs.lemmas.Nat.{pow-add}
-use Rattle.number_sets.specs.Sets.{has, IsRising}
-use Rattle.pns_rules.specs.Shape.{Shape, IsProper}
-use Rattle.pns_rules.specs.Structure.{IsAllowed, IsUnion}
-use Rattle.pns_rules.specs.Trace.{IsBefore}
-use Rattle.unit_sets.specs.declared.node.Node.{Node}
+use Rattle.pgraph.specs.number_sets.Sets.{has, IsRising}
+use Rattle.pgraph.specs.pns_rules.Shape.{Shape, IsProper}
+use Rattle.pgraph.specs.pns_rules.Structure.{IsAllowed, IsUnion}
+use Rattle.pgraph.specs.pns_rules.Trace.{IsBefore}
+use Rattle.pgraph.specs.unit_sets.declared.node.Node.{Node}
 use Rattle.structure_list.specs.declared.position.Position.{Position}
 use Rattle.structure_list.specs.declared.turn.Turn.{Turn}
 use Rattle.structure_list.specs.Position.{IsPosition, IsTurn, IsSettled, IsWithinNode, free_count}

@@ -5,15 +5,14 @@ use Rattle.std.proofs.Common.{◌∷◌, length, refl, sym, ap, ◌∙◌, subst
 use Rattle.std.proofs.Common.{Option, Some, None}
 use Rattle.std.proofs.lemmas.Bool.{both_ways, and_parts, and_from, not-true, or_parts}
 use Rattle.std.proofs.lemmas.Bool.{true_from_ne_false, false_from_ne_true}
-use Rattle.number_sets.specs.Sets.{has, listed, IsRising, IsSet, minus}
-use Rattle.number_sets.proofs.SetLemmas.{has-minus, has-listed, IsRising-listed, length-within}
-use Rattle.number_sets.proofs.SetLemmas.{length_below, same_tests}
-use Rattle.pns_rules.specs.Shape.{Shape, IsProper}
-use Rattle.pns_rules.specs.Structure.{IsStructure, IsAllowed, IsUnion, is_needed, mats}
-use Rattle.pns_rules.specs.Trace.{IsBefore}
-use Rattle.pns_rules.specs.Listing.{IsLater, IsListing}
-use Rattle.pns_rules.proofs.ListingLemmas.{goes_on, goes_back}
-use Rattle.pns_rules.proofs.OrderLemmas.{same_set, before_apart, before_trans}
+use Rattle.pgraph.specs.number_sets.Sets.{has, listed, IsRising, IsSet, minus}
+use Rattle.pgraph.proofs.number_sets.Cited.{has-minus, has-listed, IsRising-listed, length-within}
+use Rattle.pgraph.proofs.number_sets.Cited.{length_below, same_tests}
+use Rattle.pgraph.specs.pns_rules.Shape.{Shape, IsProper}
+use Rattle.pgraph.specs.pns_rules.Structure.{IsStructure, IsAllowed, IsUnion, is_needed, mats}
+use Rattle.pgraph.specs.pns_rules.Trace.{IsBefore}
+use Rattle.pgraph.specs.pns_rules.Listing.{IsLater, IsListing}
+use Rattle.pgraph.proofs.pns_rules.Cited.{goes_on, goes_back, same_set, before_apart, before_trans}
 use Rattle.pgraph.specs.Tables.{Tables, shape}
 use Rattle.structure_list.specs.MaxRest.{IsKept}
 use Rattle.structure_list.specs.Position.{IsPosition, IsWithinNode, free_count}

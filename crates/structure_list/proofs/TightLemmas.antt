@@ -4,21 +4,18 @@ use Rattle.std.proofs.Common.{◌∷◌, refl, sym, ap, ap₂, ◌∙◌, subst,
 use Rattle.std.proofs.Common.{None, lt-ltb, ltb-true}
 use Rattle.std.proofs.lemmas.Bool.{and_parts, and_from, both_ways, or_cases, or_left, or_right}
 use Rattle.std.proofs.lemmas.Bool.{or_parts, true_from_ne_false, false_from_ne_true, not-true}
-use Rattle.number_sets.specs.Sets.{has, with_number, union, minus, IsWithin}
-use Rattle.number_sets.proofs.SetLemmas.{has-minus, has-union, same_tests}
-use Rattle.pns_rules.specs.Shape.{Shape, IsProper}
-use Rattle.pns_rules.specs.Structure.{is_made, is_used, is_needed, mats, IsPath, HasPath}
-use Rattle.pns_rules.specs.Structure.{IsStructure}
-use Rattle.pns_rules.specs.Trace.{Pair, is_done, units_of, next_material}
-use Rattle.pns_rules.specs.Ends.{IsNever}
-use Rattle.pns_rules.proofs.StructureLemmas.{is_made-from, is_made-some, is_used-from}
-use Rattle.pns_rules.proofs.StructureLemmas.{is_used-some}
-use Rattle.pns_rules.proofs.StructureLemmas.{is_used-within, HasPath-within}
-use Rattle.pns_rules.proofs.TraceLemmas.{least_some}
-use Rattle.pns_rules.proofs.PathLemmas.{found_in, found_leads, path_found}
-use Rattle.pns_rules.proofs.OrderLemmas.{same_set}
-use Rattle.pns_rules.specs.Breaks.{BreaksS1}
-use Rattle.unit_sets.specs.declared.node.Node.{Node}
+use Rattle.pgraph.specs.number_sets.Sets.{has, with_number, union, minus, IsWithin}
+use Rattle.pgraph.proofs.number_sets.Cited.{has-minus, has-union, same_tests}
+use Rattle.pgraph.specs.pns_rules.Shape.{Shape, IsProper}
+use Rattle.pgraph.specs.pns_rules.Structure.{is_made, is_used, is_needed, mats, IsPath, HasPath}
+use Rattle.pgraph.specs.pns_rules.Structure.{IsStructure}
+use Rattle.pgraph.specs.pns_rules.Trace.{Pair, is_done, units_of, next_material}
+use Rattle.pgraph.specs.pns_rules.Ends.{IsNever}
+use Rattle.pgraph.proofs.pns_rules.Cited.{is_made-from, is_made-some, is_used-from, is_used-some}
+use Rattle.pgraph.proofs.pns_rules.Cited.{is_used-within, HasPath-within, least_some, found_in}
+use Rattle.pgraph.proofs.pns_rules.Cited.{found_leads, path_found, same_set}
+use Rattle.pgraph.specs.pns_rules.Breaks.{BreaksS1}
+use Rattle.pgraph.specs.unit_sets.declared.node.Node.{Node}
 use Rattle.structure_list.specs.MaxRest.{HasAll, IsKept, IsRest, HasNoRest}
 use Rattle.structure_list.proofs.BalanceLemmas.{broken_if_unmade, makes_what_it_uses}
 use Rattle.structure_list.proofs.UnionLemmas.{structure_of}

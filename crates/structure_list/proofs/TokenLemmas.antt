@@ -3,10 +3,9 @@ use Rattle.std.proofs.Common.{◌≡◌, ℕ, zero, suc, ◌+◌, ◌/◌, ◌%�
 use Rattle.std.proofs.Common.{cond, List, [], ◌∷◌, ◌++◌, length, get_or, take, refl, sym, ap, ◌∙◌}
 use Rattle.std.proofs.Common.{subst, arith, pow-suc}
 use Rattle.std.proofs.Math.Seq.{take-append_seam, get_or-append_seam}
-use Rattle.number_sets.specs.Sets.{has, mask_of, IsSet}
-use Rattle.number_sets.proofs.MaskOrder.{weight, mask-weight}
-use Rattle.number_sets.proofs.OptionLists.{same-mask}
-use Rattle.pns_rules.specs.Tokens.{digit, digits, token_of, IsDigit, AreDigits, IsToken}
+use Rattle.pgraph.specs.number_sets.Sets.{has, mask_of, IsSet}
+use Rattle.pgraph.proofs.number_sets.Cited.{weight, mask-weight, same-mask}
+use Rattle.pgraph.specs.pns_rules.Tokens.{digit, digits, token_of, IsDigit, AreDigits, IsToken}
 use Rattle.structure_list.proofs.DigitLemmas.{length_digits}
 
 -- ---- one set for a token

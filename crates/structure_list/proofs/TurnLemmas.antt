@@ -1,8 +1,8 @@
 -- From the node of a turn to that of the position before it.
 use Rattle.std.proofs.Common.{◌≡◌, ℕ, ◌<◌, Bool, true, false, sym, ap, ◌∙◌, subst}
-use Rattle.pns_rules.specs.Shape.{Shape}
-use Rattle.pns_rules.specs.Trace.{IsBefore}
-use Rattle.unit_sets.specs.declared.node.Node.{Node}
+use Rattle.pgraph.specs.pns_rules.Shape.{Shape}
+use Rattle.pgraph.specs.pns_rules.Trace.{IsBefore}
+use Rattle.pgraph.specs.unit_sets.declared.node.Node.{Node}
 use Rattle.structure_list.specs.declared.turn.Turn.{Turn}
 use Rattle.structure_list.specs.Position.{IsWithinNode, with_unit, without_unit, IsTurn, free_count}
 use Rattle.structure_list.proofs.NodeLemmas.{narrow_in, narrow_out}

@@ -3,16 +3,17 @@ use Rattle.std.proofs.Common.{◌≡◌, ℕ, ◌<◌, nat_lt, Bool, true, false
 use Rattle.std.proofs.Common.{ap, ◌∙◌, inl, inr, ◌↔◌, ltb-true, lt-ltb}
 use Rattle.std.proofs.lemmas.Bool.{or_cases, or_left, or_right, and_parts, and_from, both_ways}
 use Rattle.std.proofs.lemmas.Bool.{true_from_ne_false, false_from_ne_true, not-true}
-use Rattle.number_sets.specs.Sets.{has, minus, IsWithin, Avoids}
-use Rattle.number_sets.proofs.SetLemmas.{has-minus}
-use Rattle.pns_rules.specs.Shape.{Shape}
-use Rattle.pns_rules.specs.Structure.{is_made, is_used, mats, IsPath, HasPath, Meets, IsStructure}
-use Rattle.pns_rules.specs.Structure.{IsUnion}
-use Rattle.pns_rules.specs.Ends.{IsNever}
-use Rattle.pns_rules.proofs.StructureLemmas.{is_made-from, is_made-some, is_made-within}
-use Rattle.pns_rules.proofs.StructureLemmas.{is_used-some, mats-within, HasPath-within}
-use Rattle.pns_rules.specs.Breaks.{BreaksS1, BreaksS2}
-use Rattle.pgraph.proofs.AxiomLemmas.{balanced}
+use Rattle.pgraph.specs.number_sets.Sets.{has, minus, IsWithin, Avoids}
+use Rattle.pgraph.proofs.number_sets.Cited.{has-minus}
+use Rattle.pgraph.specs.pns_rules.Shape.{Shape}
+use Rattle.pgraph.specs.pns_rules.Structure.{is_made, is_used, mats, IsPath, HasPath, Meets}
+use Rattle.pgraph.specs.pns_rules.Structure.{IsStructure}
+use Rattle.pgraph.specs.pns_rules.Structure.{IsUnion}
+use Rattle.pgraph.specs.pns_rules.Ends.{IsNever}
+use Rattle.pgraph.proofs.pns_rules.Cited.{is_made-from, is_made-some, is_made-within, is_used-some}
+use Rattle.pgraph.proofs.pns_rules.Cited.{mats-within, HasPath-within}
+use Rattle.pgraph.specs.pns_rules.Breaks.{BreaksS1, BreaksS2}
+use Rattle.pgraph.proofs.Cited.{balanced}
 
 module _ (g : Shape) where
   begins : (o : ℕ → Bool) (u : ℕ) (path : List ℕ) → IsPath g o u path → o u ≡ true

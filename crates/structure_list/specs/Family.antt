@@ -1,12 +1,12 @@
 -- The clash-free solution structures that contain the units taken in and avoid those left out, and
 -- the head of the listing.
 use Rattle.std.specs.Prelude.{◌≡◌, ℕ, Bool, List, ◌⊎◌, Option, Some, None}
-use Rattle.number_sets.specs.Sets.{has}
-use Rattle.pns_rules.specs.Shape.{Shape}
-use Rattle.pns_rules.specs.Structure.{InFamily}
-use Rattle.pns_rules.specs.Trace.{IsBefore}
-use Rattle.pns_rules.specs.Listing.{IsListed}
-use Rattle.unit_sets.specs.declared.node.Node.{Node}
+use Rattle.pgraph.specs.number_sets.Sets.{has}
+use Rattle.pgraph.specs.pns_rules.Shape.{Shape}
+use Rattle.pgraph.specs.pns_rules.Structure.{InFamily}
+use Rattle.pgraph.specs.pns_rules.Trace.{IsBefore}
+use Rattle.pgraph.specs.pns_rules.Listing.{IsListed}
+use Rattle.pgraph.specs.unit_sets.declared.node.Node.{Node}
 
 -- a clash-free structure of the node's family
 abbrev pub IsOf : Shape → Node → (ℕ → Bool) → Type 0

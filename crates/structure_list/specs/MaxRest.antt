@@ -1,11 +1,11 @@
 -- What is left of a set of units when one of them goes. It is a step of the maximal structure
 -- generation of Friedler, Tarjan, Huang and Fan 1993, from a set that is balanced.
 use Rattle.std.specs.Prelude.{◌≡◌, ◌≢◌, ℕ, Bool, true, false}
-use Rattle.number_sets.specs.Sets.{IsWithin}
-use Rattle.pns_rules.specs.Shape.{Shape}
-use Rattle.pns_rules.specs.Structure.{is_made, Meets}
-use Rattle.pns_rules.specs.Ends.{IsNever}
-use Rattle.pns_rules.specs.Breaks.{BreaksS2}
+use Rattle.pgraph.specs.number_sets.Sets.{IsWithin}
+use Rattle.pgraph.specs.pns_rules.Shape.{Shape}
+use Rattle.pgraph.specs.pns_rules.Structure.{is_made, Meets}
+use Rattle.pgraph.specs.pns_rules.Ends.{IsNever}
+use Rattle.pgraph.specs.pns_rules.Breaks.{BreaksS2}
 
 -- each material that is wanted has a maker in the set
 abbrev pub HasAll : Shape → (ℕ → Bool) → (ℕ → Bool) → Type 0

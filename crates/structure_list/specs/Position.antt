@@ -3,12 +3,12 @@
 -- greatest number first.
 use Rattle.std.specs.Prelude.{◌≡◌, ℕ, ◌<◌, Bool, true, false, not, ◌||◌, List, length, Option, Some}
 use Rattle.std.specs.Prelude.{None}
-use Rattle.number_sets.specs.Sets.{has, listed, with_number}
-use Rattle.pns_rules.specs.Shape.{Shape}
-use Rattle.pns_rules.specs.Structure.{is_needed, IsBetween}
-use Rattle.pns_rules.specs.Trace.{Pair, is_done, units_of, next_material, IsWalk, HasMakers}
-use Rattle.pns_rules.specs.Trace.{IsBefore}
-use Rattle.unit_sets.specs.declared.node.Node.{Node}
+use Rattle.pgraph.specs.number_sets.Sets.{has, listed, with_number}
+use Rattle.pgraph.specs.pns_rules.Shape.{Shape}
+use Rattle.pgraph.specs.pns_rules.Structure.{is_needed, IsBetween}
+use Rattle.pgraph.specs.pns_rules.Trace.{Pair, is_done, units_of, next_material, IsWalk, HasMakers}
+use Rattle.pgraph.specs.pns_rules.Trace.{IsBefore}
+use Rattle.pgraph.specs.unit_sets.declared.node.Node.{Node}
 use Rattle.structure_list.specs.declared.position.Position.{Position}
 use Rattle.structure_list.specs.declared.turn.Turn.{Turn}
 

@@ -1,9 +1,9 @@
 -- What contracts see of a listing that is under way: what is still to come is the listing after the
 -- structure given last.
 use Rattle.std.specs.Prelude.{ℕ, List, Option}
-use Rattle.number_sets.specs.Sets.{has}
-use Rattle.pns_rules.specs.Shape.{Shape}
-use Rattle.pns_rules.specs.Listing.{IsLater, IsListed, IsListing}
+use Rattle.pgraph.specs.number_sets.Sets.{has}
+use Rattle.pgraph.specs.pns_rules.Shape.{Shape}
+use Rattle.pgraph.specs.pns_rules.Listing.{IsLater, IsListed, IsListing}
 use Rattle.pgraph.specs.Tables.{Tables, shape}
 use Rattle.structure_list.specs.declared.position.Position.{Position}
 use Rattle.structure_list.specs.Stack.{InStack, IsStack}

@@ -3,10 +3,10 @@
 use Rattle.std.specs.Prelude.{◌≡◌, ℕ, suc, ◌+◌, ◌^◌, ◌≤◌, Bool, false, List, [], ◌∷◌, ◌⊎◌, length}
 use Rattle.std.specs.Prelude.{◌↔◌, Option, Some, None}
 use Rattle.std.specs.List.{sum_by}
-use Rattle.number_sets.specs.Sets.{has, IsRising}
-use Rattle.pns_rules.specs.Shape.{Shape}
-use Rattle.pns_rules.specs.Structure.{IsUnion}
-use Rattle.pns_rules.specs.Trace.{IsBefore}
+use Rattle.pgraph.specs.number_sets.Sets.{has, IsRising}
+use Rattle.pgraph.specs.pns_rules.Shape.{Shape}
+use Rattle.pgraph.specs.pns_rules.Structure.{IsUnion}
+use Rattle.pgraph.specs.pns_rules.Trace.{IsBefore}
 use Rattle.structure_list.specs.declared.position.Position.{Position}
 use Rattle.structure_list.specs.Position.{IsPosition, free_count}
 use Rattle.structure_list.specs.Family.{IsOf}

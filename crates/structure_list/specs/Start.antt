@@ -1,8 +1,8 @@
 -- The position at which the search begins.
 use Rattle.std.specs.Prelude.{ℕ, ◌≤◌, Bool, false, List, length, Option, Some, None}
-use Rattle.number_sets.specs.Sets.{has, IsRising}
-use Rattle.pns_rules.specs.Shape.{Shape}
-use Rattle.pns_rules.specs.Structure.{IsStructure, IsUnion}
+use Rattle.pgraph.specs.number_sets.Sets.{has, IsRising}
+use Rattle.pgraph.specs.pns_rules.Shape.{Shape}
+use Rattle.pgraph.specs.pns_rules.Structure.{IsStructure, IsUnion}
 use Rattle.structure_list.specs.Position.{IsPosition, IsWithinNode, free_count}
 use Rattle.structure_list.specs.declared.position.Position.{Position}
 use Rattle.structure_list.specs.Tight.{IsTight}

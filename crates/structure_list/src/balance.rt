@@ -1,15 +1,14 @@
 //! Leaving out the units that no solution structure can have, until a material has a maker exactly
 //! if it is not raw.
 ghost use Rattle.std.specs.Prelude.{◌≡◌, ◌<◌, ◌↔◌, ◌&&◌, ℕ, Bool, true, not, IsTrue};
-ghost use Rattle.number_sets.specs.Sets.{has, IsWithin, Avoids};
-ghost use Rattle.pns_rules.specs.Structure.{Meets};
-ghost use Rattle.pns_rules.specs.Ends.{IsNever};
+ghost use Rattle.pgraph.specs.number_sets.Sets.{has, IsWithin, Avoids};
+ghost use Rattle.pgraph.specs.pns_rules.Structure.{Meets};
+ghost use Rattle.pgraph.specs.pns_rules.Ends.{IsNever};
 ghost use Rattle.pgraph.specs.Tables.{shape};
-ghost use Rattle.pns_rules.specs.Breaks.{BreaksS2};
+ghost use Rattle.pgraph.specs.pns_rules.Breaks.{BreaksS2};
 ghost use Rattle.structure_list.specs.Balance.{is_to_blame};
 
-use pgraph::Graph;
-use unit_sets::UnitSet;
+use pgraph::{Graph, UnitSet};
 
 fn is_broken(graph: &Graph, set: UnitSet, x: u32) -> bool
     requires { x < (shape graph.now).materials }

@@ -1,15 +1,14 @@
 //! The order of solution structures.
 ghost use Rattle.std.specs.Prelude.{◌≡◌, ◌<◌, ◌↔◌, ℕ};
-ghost use Rattle.number_sets.specs.Sets.{has};
-ghost use Rattle.pns_rules.specs.Structure.{IsStructure};
-ghost use Rattle.pns_rules.specs.Trace.{IsBefore};
+ghost use Rattle.pgraph.specs.number_sets.Sets.{has};
+ghost use Rattle.pgraph.specs.pns_rules.Structure.{IsStructure};
+ghost use Rattle.pgraph.specs.pns_rules.Trace.{IsBefore};
 ghost use Rattle.pgraph.specs.Tables.{shape};
 ghost use Rattle.structure_list.specs.Position.{IsPosition, IsWithinNode};
 
 use crate::position::Position;
-use pgraph::Graph;
+use pgraph::{Graph, UnitSet};
 use std::cmp::Ordering;
-use unit_sets::UnitSet;
 
 /// Compares two solution structures by their traces. They are equal exactly if their units are.
 pub fn compare_traces(graph: &Graph, a: UnitSet, b: UnitSet) -> Ordering

@@ -1,14 +1,13 @@
 //! The materials whose makers are decided.
 ghost use Rattle.std.specs.Prelude.{◌≡◌, ◌<◌, ℕ, true, []};
-ghost use Rattle.number_sets.specs.Sets.{has, with_number, Avoids};
-ghost use Rattle.pns_rules.specs.Trace.{least_below};
-ghost use Rattle.pns_rules.specs.Nodes.{base_makers, free_makers, child};
+ghost use Rattle.pgraph.specs.number_sets.Sets.{has, with_number, Avoids};
+ghost use Rattle.pgraph.specs.pns_rules.Trace.{least_below};
+ghost use Rattle.pgraph.specs.pns_rules.Nodes.{base_makers, free_makers, child};
 ghost use Rattle.pgraph.specs.Tables.{shape};
 ghost use Rattle.pgraph.specs.View.{node_of};
 ghost use Rattle.structure_list.specs.Due.{is_due};
 
-use pgraph::Graph;
-use unit_sets::{MatSet, Node, UnitSet};
+use pgraph::{Graph, MatSet, Node, UnitSet};
 
 /// A node, and the materials whose makers are decided at it.
 #[derive(Clone, Copy, Debug, PartialEq, Eq)]

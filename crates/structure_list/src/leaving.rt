@@ -1,14 +1,13 @@
 //! Leaving one unit out of a set in which S2 is broken nowhere.
 ghost use Rattle.std.specs.Prelude.{◌≡◌, ◌<◌, ◌+◌, ℕ, true, false, IfSome, IfNone};
-ghost use Rattle.number_sets.specs.Sets.{has};
-ghost use Rattle.pns_rules.specs.Structure.{is_made};
+ghost use Rattle.pgraph.specs.number_sets.Sets.{has};
+ghost use Rattle.pgraph.specs.pns_rules.Structure.{is_made};
 ghost use Rattle.pgraph.specs.Tables.{shape};
 ghost use Rattle.structure_list.specs.MaxRest.{IsKept, IsRest, HasNoRest, IsStarved};
 
 use crate::steps::Steps;
-use pgraph::Graph;
+use pgraph::{Graph, MatSet, UnitSet};
 use std::sync::ledger::Ledger;
-use unit_sets::{MatSet, UnitSet};
 
 /// The units of the set that go if the material has no maker in it; none if it has one. `None` if
 /// it is wanted and has none.

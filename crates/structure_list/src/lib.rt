@@ -49,6 +49,10 @@ pub use compare::compare_traces;
 pub use decided::Decided;
 pub use leaving::{left_out, without_unit};
 pub use list::{OpenFault, StructureList};
+pub use pgraph::{
+    Cover, Covers, Exclusion, Graph, Kind, MatSet, Material, Node, OperatingUnit, Place, Problem,
+    Site, Step, Term, UnitSet, generate,
+};
 pub use position::Position;
 pub use steps::Steps;
 pub use token::{BadForm, print_token, read_token};

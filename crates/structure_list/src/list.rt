@@ -1,21 +1,19 @@
 //! The list of structures that are still to come.
 ghost use Rattle.std.specs.Prelude.{◌≡◌, ◌+◌, ◌*◌, ◌<◌, ◌≤◌, ◌↔◌, ◌∷◌, ◌++◌, ℕ, List, [], false};
 ghost use Rattle.std.specs.Prelude.{length, Some, IfOk, IfErr, IfSome, IfNone, IsOk, IsTrue};
-ghost use Rattle.number_sets.specs.Sets.{has, IsRising};
-ghost use Rattle.pns_rules.specs.Structure.{IsStructure, IsUnion};
+ghost use Rattle.pgraph.specs.number_sets.Sets.{has, IsRising};
+ghost use Rattle.pgraph.specs.pns_rules.Structure.{IsStructure, IsUnion};
 ghost use Rattle.pgraph.specs.Tables.{shape};
 ghost use Rattle.structure_list.specs.Rest.{Rest, IsToCome, IsUnderWay};
 
+use crate::Steps;
 use crate::search::{next_structure, stack_after};
 use crate::stack::Stack;
-use crate::Steps;
-use pgraph::Graph;
-use pns_rules::Verdict;
+use pgraph::{Graph, UnitSet, Verdict};
 use std::alloc::Global;
 use std::marker::Model;
 use std::sync::ledger::Ledger;
 use thiserror::Error;
-use unit_sets::UnitSet;
 
 /// Why a listing cannot begin.
 #[derive(Clone, Copy, PartialEq, Eq, Debug, Drop, Error)]
@@ -107,7 +105,7 @@ impl<'a> StructureList<'a> {
             → xs ≡ ys }
     {
         self.graph.is_proper();
-        pns_rules::listing_exists();
+        pgraph::listing_exists();
     }
 }
 

@@ -1,15 +1,15 @@
 //! How far the units are decided, one by one.
 ghost use Rattle.std.specs.Prelude.{◌≡◌, ◌<◌, [], Some, IfSome, IfNone};
-ghost use Rattle.number_sets.specs.Sets.{has};
-ghost use Rattle.pns_rules.specs.Nodes.{free_makers};
+ghost use Rattle.pgraph.specs.number_sets.Sets.{has};
+ghost use Rattle.pgraph.specs.pns_rules.Nodes.{free_makers};
 ghost use Rattle.pgraph.specs.Tables.{shape};
 ghost use Rattle.pgraph.specs.View.{node_of};
-ghost use Rattle.structure_list.specs.Position.{IsPosition, IsTurn, IsSettled, IsGreatest, undone_count};
+ghost use Rattle.structure_list.specs.Position.{IsPosition, IsTurn, IsSettled, IsGreatest};
+ghost use Rattle.structure_list.specs.Position.{undone_count};
 
 use crate::decided::Decided;
 use crate::turn::Turn;
-use pgraph::Graph;
-use unit_sets::{MatSet, Node, UnitSet};
+use pgraph::{Graph, MatSet, Node, UnitSet};
 
 /// What is decided, the materials that are needed, and the material under decision. While the
 /// makers of a material are decided, a unit that is taken in may need a lesser material, which then

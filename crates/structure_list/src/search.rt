@@ -1,8 +1,8 @@
 //! The search for the next clash-free structure.
 ghost use Rattle.std.specs.Prelude.{◌≡◌, ◌+◌, ◌<◌, ◌≤◌, ◌++◌, ◌∷◌, ◌↔◌, [], ℕ, List, false, length};
 ghost use Rattle.std.specs.Prelude.{IsTrue, IfSome, IfNone};
-ghost use Rattle.number_sets.specs.Sets.{has, IsRising};
-ghost use Rattle.pns_rules.specs.Structure.{IsStructure, IsAllowed, IsUnion};
+ghost use Rattle.pgraph.specs.number_sets.Sets.{has, IsRising};
+ghost use Rattle.pgraph.specs.pns_rules.Structure.{IsStructure, IsAllowed, IsUnion};
 ghost use Rattle.pgraph.specs.Tables.{shape};
 ghost use Rattle.structure_list.specs.Position.{IsTurn, free_count, IsWithinNode};
 ghost use Rattle.structure_list.specs.Rest.{IsUnderWay};
@@ -11,11 +11,9 @@ ghost use Rattle.structure_list.specs.Start.{StartsAt, IsStart};
 
 use crate::stack::Stack;
 use crate::turns::{leaving, leaving_counted, taking};
-use crate::Position;
-use crate::{Steps, maximal};
-use pgraph::Graph;
+use crate::{Position, Steps, maximal};
+use pgraph::{Graph, UnitSet};
 use std::sync::ledger::Ledger;
-use unit_sets::UnitSet;
 
 /// The position at which the units outside the maximal structure are left out. `None` exactly if
 /// there is no structure.

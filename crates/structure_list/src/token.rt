@@ -1,10 +1,10 @@
 //! Tokens of sets of units.
 ghost use Rattle.std.specs.Prelude.{◌≡◌, ◌<◌, ◌≤◌, ℕ, List, [], ◌∷◌, ◌↔◌, IfOk, IfErr, IfSome};
 ghost use Rattle.std.specs.Prelude.{IfNone, IsOk, string_bytes};
-ghost use Rattle.pns_rules.specs.Tokens.{digit, token_of, IsDigit, IsToken};
+ghost use Rattle.pgraph.specs.pns_rules.Tokens.{digit, token_of, IsDigit, IsToken};
 
+use pgraph::UnitSet;
 use std::alloc::{AllocError, Global};
-use unit_sets::UnitSet;
 
 /// A text that is not 32 digits of `0123456789abcdef`.
 #[derive(Clone, Copy, PartialEq, Eq, Debug, Drop)]

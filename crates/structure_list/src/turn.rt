@@ -1,12 +1,12 @@
 //! The decision on one unit.
 ghost use Rattle.std.specs.Prelude.{◌≡◌, ◌<◌};
 ghost use Rattle.pgraph.specs.Tables.{shape};
-ghost use Rattle.structure_list.specs.Position.{IsPosition, IsTurn, with_unit, without_unit, free_count};
+ghost use Rattle.structure_list.specs.Position.{IsPosition, IsTurn, with_unit, without_unit};
+ghost use Rattle.structure_list.specs.Position.{free_count};
 
 use crate::decided::Decided;
 use crate::position::Position;
-use pgraph::Graph;
-use unit_sets::Node;
+use pgraph::{Graph, Node};
 
 /// A unit that is to be decided, and the position at which it is.
 #[derive(Clone, Copy, Debug, PartialEq, Eq)]

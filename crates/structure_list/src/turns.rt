@@ -1,17 +1,15 @@
 //! The positions after a turn.
 ghost use Rattle.std.specs.Prelude.{◌≡◌, ◌+◌, true, false, IfSome, IfNone};
-ghost use Rattle.number_sets.specs.Sets.{has};
-ghost use Rattle.pns_rules.specs.Structure.{is_needed};
+ghost use Rattle.pgraph.specs.number_sets.Sets.{has};
+ghost use Rattle.pgraph.specs.pns_rules.Structure.{is_needed};
 ghost use Rattle.pgraph.specs.Tables.{shape};
 ghost use Rattle.structure_list.specs.MaxRest.{IsRest};
 ghost use Rattle.structure_list.specs.Position.{IsTurn};
 ghost use Rattle.structure_list.specs.Tight.{kept_units, IsTight, IsSide, IsForced};
 
-use crate::{Decided, Position, Turn};
-use crate::{Steps, left_out, without_unit};
-use pgraph::Graph;
+use crate::{Decided, Position, Steps, Turn, left_out, without_unit};
+use pgraph::{Graph, Node, UnitSet};
 use std::sync::ledger::Ledger;
-use unit_sets::{Node, UnitSet};
 
 /// The units that the node does not leave out.
 fn kept_at(graph: &Graph, node: Node) -> UnitSet

@@ -1,15 +1,14 @@
 //! The union of all solution structures, after the maximal structure generation of Friedler,
 //! Tarjan, Huang and Fan (1993), and viability.
 ghost use Rattle.std.specs.Prelude.{◌≡◌, ◌+◌, ◌↔◌, ℕ, Bool, false, IsTrue, IfSome, IfNone};
-ghost use Rattle.number_sets.specs.Sets.{has, Avoids};
-ghost use Rattle.pns_rules.specs.Structure.{Meets, IsBetween, IsUnion};
+ghost use Rattle.pgraph.specs.number_sets.Sets.{has, Avoids};
+ghost use Rattle.pgraph.specs.pns_rules.Structure.{Meets, IsBetween, IsUnion};
 ghost use Rattle.pgraph.specs.Tables.{shape};
 
 use crate::balance::balanced;
 use crate::steps::Steps;
-use pgraph::Graph;
+use pgraph::{Graph, UnitSet};
 use std::sync::ledger::Ledger;
-use unit_sets::UnitSet;
 
 /// The union of all solution structures, clash-free or not, that avoid `without`; it is one of
 /// them. `None` exactly if there is none. It takes no memory.

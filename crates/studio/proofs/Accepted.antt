@@ -2,29 +2,31 @@
 use Rattle.std.proofs.Common.{◌≡◌, ◌≤◌, ℕ, false, List, [], Some, Result, Ok, Err, length, refl}
 use Rattle.std.proofs.Common.{sym}
 use Rattle.std.proofs.Common.{◌∙◌, subst, arith, inl, inr}
-use Rattle.text_rules.specs.Outside.{Told}
-use Rattle.problem_rules.specs.Problem.{Problem}
-use Rattle.text_rules.specs.Fault.{Fault}
-use Rattle.problem_rules.specs.Validity.{IsValid}
-use Rattle.tree_rules.specs.Claim.{Claim, claimed_cost}
-use Rattle.tree_rules.specs.Accepted.{Tree, first_node, IsAccepted}
-use Rattle.tree_laws.specs.Laws.{PassingClaimHasNoFault}
-use Rattle.tree_rules.specs.HeadLaws.{PassingHasNoFault}
-use Rattle.tree_rules.specs.Head.{known_first}
-use Rattle.tree_rules.specs.Headed.{head_node, IsAcceptedBy}
-use Rattle.tree_laws.specs.HeadLaws.{EmptyHeadProves, PassingTreeHasNoFaultBy}
-use Rattle.tree_text_laws.specs.Laws.{PlainTextsAreHeaded}
-use Rattle.tree_rules.specs.Tail.{Tail, whole, spent, past}
-use Rattle.tree_text_rules.specs.Read as trees
-use Rattle.studio_rules.specs.Solve.{Holds, status_of, SolveWork}
-use Rattle.studio_rules.specs.Lines.{text_of}
-use Rattle.studio_rules.specs.declared.status.Status.{Status}
-use Rattle.studio_rules.specs.declared.status.Status.TheVariants.{Done, Refused, BadProblem}
-use Rattle.studio_rules.specs.declared.status.Status.TheVariants.{BadTree, TooLong}
-use Rattle.studio_rules.specs.Reading.{AreHeld, FileFault, GivesProblem}
-use Rattle.studio_rules.specs.TreeFile.{tree_limit}
-use Rattle.studio_rules.specs.HeadedFile.{HeadedSays}
-use Rattle.studio_rules.specs.Check.{CheckWork}
+use Rattle.structure_commands.specs.text_rules.Outside.{Told}
+use Rattle.structure_commands.specs.problem_rules.Problem.{Problem}
+use Rattle.structure_commands.specs.text_rules.Fault.{Fault}
+use Rattle.structure_commands.specs.problem_rules.Validity.{IsValid}
+use Rattle.structure_commands.specs.tree_rules.Claim.{Claim, claimed_cost}
+use Rattle.structure_commands.specs.tree_rules.Accepted.{Tree, first_node, IsAccepted}
+use Rattle.structure_commands.specs.tree_laws.Laws.{PassingClaimHasNoFault}
+use Rattle.structure_commands.specs.tree_rules.HeadLaws.{PassingHasNoFault}
+use Rattle.structure_commands.specs.tree_rules.Head.{known_first}
+use Rattle.structure_commands.specs.tree_rules.Headed.{head_node, IsAcceptedBy}
+use Rattle.structure_commands.specs.tree_laws.HeadLaws.{EmptyHeadProves, PassingTreeHasNoFaultBy}
+use Rattle.part_commands.specs.tree_text_laws.Laws.{PlainTextsAreHeaded}
+use Rattle.structure_commands.specs.tree_rules.Tail.{Tail, whole, spent, past}
+use Rattle.structure_commands.specs.tree_text_rules.Read as trees
+use Rattle.structure_commands.specs.studio_rules.Solve.{Holds, status_of, SolveWork}
+use Rattle.structure_commands.specs.studio_rules.Lines.{text_of}
+use Rattle.structure_commands.specs.studio_rules.declared.status.Status.{Status}
+use Rattle.structure_commands.specs.studio_rules.declared.status.Status.TheVariants.{Done, Refused}
+use Rattle.structure_commands.specs.studio_rules.declared.status.Status.TheVariants.{BadProblem}
+use Rattle.structure_commands.specs.studio_rules.declared.status.Status.TheVariants.{BadTree}
+use Rattle.structure_commands.specs.studio_rules.declared.status.Status.TheVariants.{TooLong}
+use Rattle.structure_commands.specs.studio_rules.Reading.{AreHeld, FileFault, GivesProblem}
+use Rattle.structure_commands.specs.studio_rules.TreeFile.{tree_limit}
+use Rattle.structure_commands.specs.studio_rules.HeadedFile.{HeadedSays}
+use Rattle.structure_commands.specs.studio_rules.Check.{CheckWork}
 use Rattle.studio.specs.SolveLaws.{IsAcceptedOrLong, SolvedIsAccepted}
 
 pub is_held : (held : Told) (bytes file : List ℕ) → held ≡ Some (Some bytes) → AreHeld held file

@@ -8,34 +8,39 @@ use Rattle.std.proofs.lemmas.List.{get_or_append_left, get_or-append-add}
 use Rattle.std.proofs.lemmas.Grind.{flat_map-append}
 use Rattle.std.proofs.Math.Seq.{take-append_seam}
 use Rattle.std.specs.Io.KnownBytes.{Appends}
-use Rattle.text_rules.specs.Outside.{Told}
-use Rattle.problem_rules.specs.Problem.{Problem}
-use Rattle.problem_rules.specs.WellFormed.{IsWellFormed, ValidIsWellFormed}
-use Rattle.pns_rules.specs.Shape.{shape_of}
-use Rattle.pns_rules.specs.Listing.{IsListing}
-use Rattle.pns_rules.proofs.ListingLemmas.{listing_is_one}
-use Rattle.pns_rules.specs.Tokens.{digit, IsDigit, AreDigits, token_of}
-use Rattle.structure_list.proofs.TokenLemmas.{token_one, token_has_form}
-use Rattle.studio_rules.specs.Listing.{IsAfter, structure_line, more_line, last_of, last_line}
-use Rattle.studio_rules.specs.Listing.{listing_lines, ListingWork}
+use Rattle.structure_commands.specs.text_rules.Outside.{Told}
+use Rattle.structure_commands.specs.problem_rules.Problem.{Problem}
+use Rattle.structure_commands.specs.problem_rules.WellFormed.{IsWellFormed, ValidIsWellFormed}
+use Rattle.structure_commands.specs.pns_rules.Shape.{shape_of}
+use Rattle.structure_commands.specs.pns_rules.Listing.{IsListing}
+use Rattle.structure_commands.proofs.pns_rules.Cited.{listing_is_one}
+use Rattle.structure_commands.specs.pns_rules.Tokens.{digit, IsDigit, AreDigits, token_of}
+use Rattle.structure_commands.proofs.structure_list.Cited.{token_one, token_has_form}
+use Rattle.structure_commands.specs.studio_rules.Listing.{IsAfter, structure_line, more_line}
+use Rattle.structure_commands.specs.studio_rules.Listing.{last_of, last_line}
+use Rattle.structure_commands.specs.studio_rules.Listing.{listing_lines, ListingWork}
 use Rattle.structure_commands.specs.ListingLaws.{PartsJoin}
-use Rattle.structure_commands.proofs.ListingStart.{not_start, set_of}
-use Rattle.studio_rules.specs.Reading.{AreHeld, FileFault, GivesProblem, OnFile}
-use Rattle.studio_rules.specs.TreeFile.{tree_limit}
-use Rattle.studio_rules.specs.Rank.{RankWork}
-use Rattle.studio_rules.specs.Alternates.{AlternatesWork}
-use Rattle.studio_rules.specs.Solve.{SolveWork}
-use Rattle.studio_rules.specs.Command.{Command, Listing, Checking, RankChecking, Solving, Ranking}
-use Rattle.studio_rules.specs.Command.{Alternatives}
-use Rattle.studio_rules.specs.Command.{command_of}
-use Rattle.studio_rules.specs.Lines.{line, text_of}
-use Rattle.studio_rules.specs.Ending.{Finishes}
-use Rattle.command_files.proofs.Ending.{writes_as, one_line}
-use Rattle.command_files.proofs.Put.{text_out}
-use Rattle.studio_rules.specs.declared.status.Status.{Status}
-use Rattle.studio_rules.specs.declared.status.Status.TheVariants.{Done, ReadFault, WriteFault}
-use Rattle.studio_rules.specs.declared.status.Status.TheVariants.{Memory, TooLong, BadToken}
-use Rattle.studio_rules.specs.Answers.{AnswersTo, CommandAnswers, WordsSay}
+use Rattle.structure_commands.proofs.Cited.{not_start, set_of}
+use Rattle.structure_commands.specs.studio_rules.Reading.{AreHeld, FileFault, GivesProblem, OnFile}
+use Rattle.structure_commands.specs.studio_rules.TreeFile.{tree_limit}
+use Rattle.structure_commands.specs.studio_rules.Rank.{RankWork}
+use Rattle.structure_commands.specs.studio_rules.Alternates.{AlternatesWork}
+use Rattle.structure_commands.specs.studio_rules.Solve.{SolveWork}
+use Rattle.structure_commands.specs.studio_rules.Command.{Command, Listing, Checking, RankChecking}
+use Rattle.structure_commands.specs.studio_rules.Command.{Solving, Ranking}
+use Rattle.structure_commands.specs.studio_rules.Command.{Alternatives}
+use Rattle.structure_commands.specs.studio_rules.Command.{command_of}
+use Rattle.structure_commands.specs.studio_rules.Lines.{line, text_of}
+use Rattle.structure_commands.specs.studio_rules.Ending.{Finishes}
+use Rattle.structure_commands.proofs.command_files.Cited.{writes_as, one_line, text_out}
+use Rattle.structure_commands.specs.studio_rules.declared.status.Status.{Status}
+use Rattle.structure_commands.specs.studio_rules.declared.status.Status.TheVariants.{Done}
+use Rattle.structure_commands.specs.studio_rules.declared.status.Status.TheVariants.{ReadFault}
+use Rattle.structure_commands.specs.studio_rules.declared.status.Status.TheVariants.{WriteFault}
+use Rattle.structure_commands.specs.studio_rules.declared.status.Status.TheVariants.{Memory}
+use Rattle.structure_commands.specs.studio_rules.declared.status.Status.TheVariants.{TooLong}
+use Rattle.structure_commands.specs.studio_rules.declared.status.Status.TheVariants.{BadToken}
+use Rattle.structure_commands.specs.studio_rules.Answers.{AnswersTo, CommandAnswers, WordsSay}
 use Rattle.studio.specs.SolveLaws.{IsAcceptedOrLong, SolvedIsAccepted}
 use Rattle.studio.specs.RankLaws.{RankedIsAccepted, AlternativesAreAccepted}
 use Rattle.studio.specs.Calls.{Call, IsCall, Calls, Puts, Holds, Keep, EndsWith, HasFailed, Accepts}

@@ -4,100 +4,123 @@ use Rattle.std.proofs.Common.{Bool, sym, ◌∙◌, ◌≡◌, ◌⊎◌, ◌<�
 use Rattle.std.proofs.Common.{Some, None, IsSome, refl, inl, inr, List, ℕ, Option, Result, Ok}
 use Rattle.std.proofs.Common.{Err}
 use Rattle.std.proofs.Common.{subst, ap, arith, length, take, get_or, pos}
-use Rattle.problem_rules.specs.Problem.{Problem}
-use Rattle.problem_rules.specs.Validity.{IsValid}
-use Rattle.pns_rules.specs.Shape.{shape_of}
-use Rattle.text_rules.specs.Fault as problems
-use Rattle.edit_rules.specs.Edit.{Edit, Script}
-use Rattle.edit_rules.specs.Effect.{effect}
-use Rattle.edit_rules.specs.Fault as edits
-use Rattle.edit_rules.specs.Script.{CanApply, IsFirstFault}
-use Rattle.edit_rules.specs.declared.EditKind.{EditKind}
-use Rattle.edit_rules.specs.ScriptFault as scripts
-use Rattle.plan_rules.specs.declared.PlanKind.{PlanKind}
-use Rattle.plan_rules.specs.Plan.{Plan}
-use Rattle.plan_rules.specs.Read as plans
-use Rattle.text_rules.specs.Outside.{Told}
-use Rattle.text_rules.specs.State.{ShelfState, OutputsState}
-use Rattle.tree_rules.specs.Claim.{Claim, Network}
-use Rattle.tree_rules.specs.Accepted.{Tree}
-use Rattle.tree_text_rules.specs.Read as trees
-use Rattle.tree_text_rules.specs.Part.{Part}
-use Rattle.tree_text_rules.specs.PartRead.{PartReads}
-use Rattle.tree_parts.specs.PartLaws.{PartsAreReadOnce}
-use Rattle.rank_rules.specs.Text.{Text}
-use Rattle.report_rules.specs.declared.spot.Spot.{Spot}
-use Rattle.report_rules.specs.declared.spot.SpotKind.{SpotKind}
-use Rattle.problem_rules.specs.Generated.{generated}
-use Rattle.studio_rules.specs.Ending.{Ends, IsOneOf}
-use Rattle.studio_rules.specs.declared.status.Status.{Status}
-use Rattle.studio_rules.specs.declared.status.Status.TheVariants.{Done, Refused, Past, Spent}
-use Rattle.studio_rules.specs.declared.status.Status.TheVariants.{ReadFault, WriteFault, Memory}
-use Rattle.studio_rules.specs.declared.status.Status.TheVariants.{BadProblem, BadToken, BadTree}
-use Rattle.studio_rules.specs.declared.status.Status.TheVariants.{BadEdit, TooLong, UnknownName}
-use Rattle.studio_rules.specs.declared.status.Status.TheVariants.{NotMigrated, BadNode, BadPlan}
-use Rattle.studio_rules.specs.declared.status.Status.TheVariants.{BadClaim, NotBest}
-use Rattle.studio_rules.specs.Reading.{AreHeld, FileFault, GivesProblem, OnFile, OnText}
-use Rattle.studio_rules.specs.Reading.{file_limit}
-use Rattle.studio_rules.specs.Script.{ScriptFault, GivesScript, HasEditFault, OnScript}
-use Rattle.studio_rules.specs.Plan.{PlanFileFault, GivesPlan, OnPlan}
-use Rattle.studio_rules.specs.TreeFile.{TreeFault, GivesTree, OnTree, tree_limit}
-use Rattle.studio_rules.specs.Max.{MaxWork}
-use Rattle.studio_rules.specs.Lint.{LintWork}
-use Rattle.studio_rules.specs.Axioms.{AxiomsWork, first_stranger}
-use Rattle.studio_rules.specs.Listing.{ListingWork}
-use Rattle.studio_rules.specs.Migrate.{MigrateWork}
-use Rattle.studio_rules.specs.Edits.{EditWork, UndoWork}
-use Rattle.studio_rules.specs.Flows.{FlowsWork}
-use Rattle.studio_rules.specs.HeadedFile.{AnyHead, HeadedFault, HeadedSays}
-use Rattle.studio_rules.specs.HeadedFile.{GivesHeaded, OnHeaded}
-use Rattle.studio_rules.specs.Check.{CheckWork}
-use Rattle.studio_rules.specs.Rankcheck.{RankFault, GivesRanking, OnRank, RankcheckWork}
-use Rattle.studio_rules.specs.Rank.{RankWork}
-use Rattle.studio_rules.specs.Alternates.{AlternatesWork}
-use Rattle.studio_rules.specs.Network.{OnNetwork}
-use Rattle.studio_rules.specs.Table.{TableWork}
-use Rattle.report_rules.specs.Measures.{measures_of}
-use Rattle.studio_rules.specs.Report.{ReportWork}
-use Rattle.studio_rules.specs.Json.{JsonWork}
-use Rattle.studio_rules.specs.RankReport.{RankReportWork, ReportsOn}
-use Rattle.studio_rules.specs.RankJson.{RankJsonWork}
-use Rattle.studio_rules.specs.RankGraph.{RankGraphWork}
-use Rattle.studio_rules.specs.TextFile.{by_kind, RankSays, EitherSays, OnEither}
-use Rattle.studio_rules.specs.RangesJson.{TableSays, AnySays, OnAny}
-use Rattle.report_rules.specs.RangeTable.{is_table, read_table}
-use Rattle.report_rules.specs.declared.row.Row.{Row}
-use Rattle.rank_rules.specs.Headed.{is_ranking}
-use Rattle.studio_rules.specs.Graph.{PlantGraphWork, NetworkGraphWork}
-use Rattle.studio_rules.specs.Expand.{ExpandWork}
-use Rattle.studio_rules.specs.Periods.{PeriodsWork}
-use Rattle.studio_rules.specs.Split.{SplitWork}
-use Rattle.studio_rules.specs.PartFile.{PartFault, PartFaults, GivesPart, GiveParts, FirstFault}
-use Rattle.studio_rules.specs.PartFile.{are_several}
-use Rattle.studio_rules.specs.Merge.{MergeWork}
-use Rattle.studio_rules.specs.Start.{OnStart}
-use Rattle.studio_rules.specs.Part.{PartSays, PartWork, ClaimSays, AgainstWork}
-use Rattle.studio_rules.specs.Solve.{SolveWork}
-use Rattle.studio_rules.specs.Show.{ShowWork}
-use Rattle.studio_rules.specs.Stable.{spot_named, NamedWork, StableWork}
-use Rattle.studio_rules.specs.StableTable.{RangesWork}
-use Rattle.studio_rules.specs.Command.{Command, Max, Axioms, Flows, Listing, Linting, Make}
-use Rattle.studio_rules.specs.Command.{Migrate}
-use Rattle.studio_rules.specs.Command.{Editing, Undoing, Checking, RankChecking, Solving, Showing}
-use Rattle.studio_rules.specs.Command.{Alternatives, RangingAll}
-use Rattle.studio_rules.specs.Command.{Ranking, Trial, Telling, Table, Splitting, Expanding}
-use Rattle.studio_rules.specs.Command.{Drawing, DrawingNetwork, Reporting, Json, Ranging}
-use Rattle.studio_rules.specs.Command.{Planning}
-use Rattle.studio_rules.specs.Command.{Parting, PartingAgainst, Merging, command_of}
-use Rattle.studio_rules.specs.Answers.{AnswersTo, CommandAnswers, WordsSay}
-use Rattle.studio_rules.specs.Causes.{caused, FileCause, HasProblemFault, HasScriptFault}
-use Rattle.studio_rules.specs.Causes.{HasPlanFault, HasTreeFault, HasHeadedFault, HasRankFault}
-use Rattle.studio_rules.specs.Causes.{HasPartFault}
-use Rattle.studio_rules.specs.Causes.{NoCause, TokenCause, MigrationCause, NameCause, InFile}
-use Rattle.studio_rules.specs.Causes.{InScript, InPlan, InRank, InTree, InHeaded, InEither, InAny}
-use Rattle.studio_rules.specs.Causes.{InParts, HasTableFault, HasEitherFault}
-use Rattle.studio_rules.specs.Causes.{AtNode, CauseOf}
-use Rattle.studio_rules.specs.Causes.{AreTold, EndsExactly}
+use Rattle.structure_commands.specs.problem_rules.Problem.{Problem}
+use Rattle.structure_commands.specs.problem_rules.Validity.{IsValid}
+use Rattle.structure_commands.specs.pns_rules.Shape.{shape_of}
+use Rattle.structure_commands.specs.text_rules.Fault as problems
+use Rattle.structure_commands.specs.edit_rules.Edit.{Edit, Script}
+use Rattle.structure_commands.specs.edit_rules.Effect.{effect}
+use Rattle.structure_commands.specs.edit_rules.Fault as edits
+use Rattle.structure_commands.specs.edit_rules.Script.{CanApply, IsFirstFault}
+use Rattle.structure_commands.specs.edit_rules.declared.EditKind.{EditKind}
+use Rattle.structure_commands.specs.edit_rules.ScriptFault as scripts
+use Rattle.structure_commands.specs.plan_rules.declared.PlanKind.{PlanKind}
+use Rattle.structure_commands.specs.plan_rules.Plan.{Plan}
+use Rattle.structure_commands.specs.plan_rules.Read as plans
+use Rattle.structure_commands.specs.text_rules.Outside.{Told}
+use Rattle.structure_commands.specs.text_rules.State.{ShelfState, OutputsState}
+use Rattle.structure_commands.specs.tree_rules.Claim.{Claim, Network}
+use Rattle.structure_commands.specs.tree_rules.Accepted.{Tree}
+use Rattle.structure_commands.specs.tree_text_rules.Read as trees
+use Rattle.structure_commands.specs.tree_text_rules.Part.{Part}
+use Rattle.structure_commands.specs.tree_text_rules.PartRead.{PartReads}
+use Rattle.part_commands.specs.tree_parts.PartLaws.{PartsAreReadOnce}
+use Rattle.structure_commands.specs.rank_rules.Text.{Text}
+use Rattle.structure_commands.specs.report_rules.declared.spot.Spot.{Spot}
+use Rattle.structure_commands.specs.report_rules.declared.spot.SpotKind.{SpotKind}
+use Rattle.structure_commands.specs.problem_rules.Generated.{generated}
+use Rattle.structure_commands.specs.studio_rules.Ending.{Ends, IsOneOf}
+use Rattle.structure_commands.specs.studio_rules.declared.status.Status.{Status}
+use Rattle.structure_commands.specs.studio_rules.declared.status.Status.TheVariants.{Done, Refused}
+use Rattle.structure_commands.specs.studio_rules.declared.status.Status.TheVariants.{Past, Spent}
+use Rattle.structure_commands.specs.studio_rules.declared.status.Status.TheVariants.{ReadFault}
+use Rattle.structure_commands.specs.studio_rules.declared.status.Status.TheVariants.{WriteFault}
+use Rattle.structure_commands.specs.studio_rules.declared.status.Status.TheVariants.{Memory}
+use Rattle.structure_commands.specs.studio_rules.declared.status.Status.TheVariants.{BadProblem}
+use Rattle.structure_commands.specs.studio_rules.declared.status.Status.TheVariants.{BadToken}
+use Rattle.structure_commands.specs.studio_rules.declared.status.Status.TheVariants.{BadTree}
+use Rattle.structure_commands.specs.studio_rules.declared.status.Status.TheVariants.{BadEdit}
+use Rattle.structure_commands.specs.studio_rules.declared.status.Status.TheVariants.{TooLong}
+use Rattle.structure_commands.specs.studio_rules.declared.status.Status.TheVariants.{UnknownName}
+use Rattle.structure_commands.specs.studio_rules.declared.status.Status.TheVariants.{NotMigrated}
+use Rattle.structure_commands.specs.studio_rules.declared.status.Status.TheVariants.{BadNode}
+use Rattle.structure_commands.specs.studio_rules.declared.status.Status.TheVariants.{BadPlan}
+use Rattle.structure_commands.specs.studio_rules.declared.status.Status.TheVariants.{BadClaim}
+use Rattle.structure_commands.specs.studio_rules.declared.status.Status.TheVariants.{NotBest}
+use Rattle.structure_commands.specs.studio_rules.Reading.{AreHeld, FileFault, GivesProblem, OnFile}
+use Rattle.structure_commands.specs.studio_rules.Reading.{OnText}
+use Rattle.structure_commands.specs.studio_rules.Reading.{file_limit}
+use Rattle.structure_commands.specs.studio_rules.Script.{ScriptFault, GivesScript, HasEditFault}
+use Rattle.structure_commands.specs.studio_rules.Script.{OnScript}
+use Rattle.structure_commands.specs.studio_rules.Plan.{PlanFileFault, GivesPlan, OnPlan}
+use Rattle.structure_commands.specs.studio_rules.TreeFile.{TreeFault, GivesTree, OnTree, tree_limit}
+use Rattle.structure_commands.specs.studio_rules.Max.{MaxWork}
+use Rattle.structure_commands.specs.studio_rules.Lint.{LintWork}
+use Rattle.structure_commands.specs.studio_rules.Axioms.{AxiomsWork, first_stranger}
+use Rattle.structure_commands.specs.studio_rules.Listing.{ListingWork}
+use Rattle.structure_commands.specs.studio_rules.Migrate.{MigrateWork}
+use Rattle.structure_commands.specs.studio_rules.Edits.{EditWork, UndoWork}
+use Rattle.structure_commands.specs.studio_rules.Flows.{FlowsWork}
+use Rattle.structure_commands.specs.studio_rules.HeadedFile.{AnyHead, HeadedFault, HeadedSays}
+use Rattle.structure_commands.specs.studio_rules.HeadedFile.{GivesHeaded, OnHeaded}
+use Rattle.structure_commands.specs.studio_rules.Check.{CheckWork}
+use Rattle.structure_commands.specs.studio_rules.Rankcheck.{RankFault, GivesRanking, OnRank}
+use Rattle.structure_commands.specs.studio_rules.Rankcheck.{RankcheckWork}
+use Rattle.structure_commands.specs.studio_rules.Rank.{RankWork}
+use Rattle.structure_commands.specs.studio_rules.Alternates.{AlternatesWork}
+use Rattle.structure_commands.specs.studio_rules.Network.{OnNetwork}
+use Rattle.structure_commands.specs.studio_rules.Table.{TableWork}
+use Rattle.structure_commands.specs.report_rules.Measures.{measures_of}
+use Rattle.structure_commands.specs.studio_rules.Report.{ReportWork}
+use Rattle.structure_commands.specs.studio_rules.Json.{JsonWork}
+use Rattle.structure_commands.specs.studio_rules.RankReport.{RankReportWork, ReportsOn}
+use Rattle.structure_commands.specs.studio_rules.RankJson.{RankJsonWork}
+use Rattle.structure_commands.specs.studio_rules.RankGraph.{RankGraphWork}
+use Rattle.structure_commands.specs.studio_rules.TextFile.{by_kind, RankSays, EitherSays, OnEither}
+use Rattle.structure_commands.specs.studio_rules.RangesJson.{TableSays, AnySays, OnAny}
+use Rattle.structure_commands.specs.report_rules.RangeTable.{is_table, read_table}
+use Rattle.structure_commands.specs.report_rules.declared.row.Row.{Row}
+use Rattle.structure_commands.specs.rank_rules.Headed.{is_ranking}
+use Rattle.structure_commands.specs.studio_rules.Graph.{PlantGraphWork, NetworkGraphWork}
+use Rattle.structure_commands.specs.studio_rules.Expand.{ExpandWork}
+use Rattle.structure_commands.specs.studio_rules.Periods.{PeriodsWork}
+use Rattle.structure_commands.specs.studio_rules.Split.{SplitWork}
+use Rattle.structure_commands.specs.studio_rules.PartFile.{PartFault, PartFaults, GivesPart}
+use Rattle.structure_commands.specs.studio_rules.PartFile.{GiveParts, FirstFault}
+use Rattle.structure_commands.specs.studio_rules.PartFile.{are_several}
+use Rattle.structure_commands.specs.studio_rules.Merge.{MergeWork}
+use Rattle.structure_commands.specs.studio_rules.Start.{OnStart}
+use Rattle.structure_commands.specs.studio_rules.Part.{PartSays, PartWork, ClaimSays, AgainstWork}
+use Rattle.structure_commands.specs.studio_rules.Solve.{SolveWork}
+use Rattle.structure_commands.specs.studio_rules.Show.{ShowWork}
+use Rattle.structure_commands.specs.studio_rules.Stable.{spot_named, NamedWork, StableWork}
+use Rattle.structure_commands.specs.studio_rules.StableTable.{RangesWork}
+use Rattle.structure_commands.specs.studio_rules.Command.{Command, Max, Axioms, Flows, Listing}
+use Rattle.structure_commands.specs.studio_rules.Command.{Linting, Make}
+use Rattle.structure_commands.specs.studio_rules.Command.{Migrate}
+use Rattle.structure_commands.specs.studio_rules.Command.{Editing, Undoing, Checking, RankChecking}
+use Rattle.structure_commands.specs.studio_rules.Command.{Solving, Showing}
+use Rattle.structure_commands.specs.studio_rules.Command.{Alternatives, RangingAll}
+use Rattle.structure_commands.specs.studio_rules.Command.{Ranking, Trial, Telling, Table, Splitting}
+use Rattle.structure_commands.specs.studio_rules.Command.{Expanding}
+use Rattle.structure_commands.specs.studio_rules.Command.{Drawing, DrawingNetwork, Reporting, Json}
+use Rattle.structure_commands.specs.studio_rules.Command.{Ranging}
+use Rattle.structure_commands.specs.studio_rules.Command.{Planning}
+use Rattle.structure_commands.specs.studio_rules.Command.{Parting, PartingAgainst, Merging}
+use Rattle.structure_commands.specs.studio_rules.Command.{command_of}
+use Rattle.structure_commands.specs.studio_rules.Answers.{AnswersTo, CommandAnswers, WordsSay}
+use Rattle.structure_commands.specs.studio_rules.Causes.{caused, FileCause, HasProblemFault}
+use Rattle.structure_commands.specs.studio_rules.Causes.{HasScriptFault}
+use Rattle.structure_commands.specs.studio_rules.Causes.{HasPlanFault, HasTreeFault, HasHeadedFault}
+use Rattle.structure_commands.specs.studio_rules.Causes.{HasRankFault}
+use Rattle.structure_commands.specs.studio_rules.Causes.{HasPartFault}
+use Rattle.structure_commands.specs.studio_rules.Causes.{NoCause, TokenCause, MigrationCause}
+use Rattle.structure_commands.specs.studio_rules.Causes.{NameCause, InFile}
+use Rattle.structure_commands.specs.studio_rules.Causes.{InScript, InPlan, InRank, InTree, InHeaded}
+use Rattle.structure_commands.specs.studio_rules.Causes.{InEither, InAny}
+use Rattle.structure_commands.specs.studio_rules.Causes.{InParts, HasTableFault, HasEitherFault}
+use Rattle.structure_commands.specs.studio_rules.Causes.{AtNode, CauseOf}
+use Rattle.structure_commands.specs.studio_rules.Causes.{AreTold, EndsExactly}
 use Rattle.studio.proofs.Accepted.{no_fault, one_problem}
 use Rattle.studio.proofs.Statuses.{max_status, lint_status, names_status, flows_status}
 use Rattle.studio.proofs.Statuses.{check_status, rankcheck_status, split_status, table_status}

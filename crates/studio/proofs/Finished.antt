@@ -1,44 +1,57 @@
 -- A search that nothing stops finishes.
 use Rattle.std.proofs.Common.{◌≡◌, ◌⊎◌, ℕ, List, Option, Some, None, inl, inr, refl, sym, subst}
-use Rattle.number_sets.specs.Sets.{has}
-use Rattle.problem_rules.specs.Problem.{Problem}
-use Rattle.problem_rules.specs.Generated.{generated}
-use Rattle.text_rules.specs.Outside.{Told}
-use Rattle.text_rules.specs.State.{ShelfState, OutputsState}
-use Rattle.pns_rules.specs.Nodes.{Node}
-use Rattle.pns_rules.specs.declared.verdict.Verdict.{Verdict}
-use Rattle.pns_rules.specs.declared.verdict.Verdict.TheVariants.{Meets, Breaks}
-use Rattle.plan_rules.specs.Plan.{Plan}
-use Rattle.plan_rules.specs.Expanded.{expanded}
-use Rattle.tree_rules.specs.Claim.{Claim, Network, network, infeasible, unknown}
-use Rattle.tree_rules.specs.Accepted.{Tree}
-use Rattle.tree_rules.specs.Tail.{Tail, whole, spent, past}
-use Rattle.report_rules.specs.declared.spot.Spot.{Spot}
-use Rattle.report_rules.specs.declared.spot.SpotKind.{SpotKind}
-use Rattle.report_rules.specs.Spot.{valued}
-use Rattle.studio_rules.specs.Command.{Alternatives}
-use Rattle.studio_rules.specs.Command.{Command, Flows, Solving, Showing, Ranking, Trial, Ranging}
-use Rattle.studio_rules.specs.Command.{Planning, Parting, PartingAgainst, command_of}
-use Rattle.studio_rules.specs.Reading.{AreHeld}
-use Rattle.studio_rules.specs.TreeFile.{TreeFault, OnTree}
-use Rattle.studio_rules.specs.HeadedFile.{AnyHead, HeadedFault, OnHeaded}
-use Rattle.studio_rules.specs.Plan.{PlanFileFault, OnPlan}
-use Rattle.studio_rules.specs.Flows.{FlowNamesSay, UnitsSay, FlowsSay, StaysInRange}
-use Rattle.studio_rules.specs.Axioms.{units_named, first_stranger}
-use Rattle.studio_rules.specs.Start.{OnStart}
-use Rattle.studio_rules.specs.Part.{HoldsFrom, PartSays, ClaimSays}
-use Rattle.studio_rules.specs.Periods.{PeriodsWork}
-use Rattle.studio_rules.specs.Stable.{spot_named, SpotWork, NamedWork, StableWork, CanRange}
-use Rattle.studio_rules.specs.Solve.{status_of, CanFinish}
-use Rattle.studio_rules.specs.Ending.{Ends}
-use Rattle.studio_rules.specs.Answers.{AnswersTo, CommandAnswers, WordsSay, IsNotStopped}
-use Rattle.studio_rules.specs.Answers.{SearchCanFinish, PlanCanFinish, RangeCanFinish}
-use Rattle.studio_rules.specs.declared.status.Status.{Status}
-use Rattle.studio_rules.specs.declared.status.Status.TheVariants.{Done, Refused, Past, Spent}
-use Rattle.studio_rules.specs.declared.status.Status.TheVariants.{ReadFault, WriteFault, Memory}
-use Rattle.studio_rules.specs.declared.status.Status.TheVariants.{TooLong, BadTree, BadPlan}
-use Rattle.studio_rules.specs.declared.status.Status.TheVariants.{BadNode, NotBest, UnknownName}
-use Rattle.studio_rules.specs.declared.status.Status.TheVariants.{BadClaim}
+use Rattle.structure_commands.specs.number_sets.Sets.{has}
+use Rattle.structure_commands.specs.problem_rules.Problem.{Problem}
+use Rattle.structure_commands.specs.problem_rules.Generated.{generated}
+use Rattle.structure_commands.specs.text_rules.Outside.{Told}
+use Rattle.structure_commands.specs.text_rules.State.{ShelfState, OutputsState}
+use Rattle.structure_commands.specs.pns_rules.Nodes.{Node}
+use Rattle.structure_commands.specs.pns_rules.declared.verdict.Verdict.{Verdict}
+use Rattle.structure_commands.specs.pns_rules.declared.verdict.Verdict.TheVariants.{Meets, Breaks}
+use Rattle.structure_commands.specs.plan_rules.Plan.{Plan}
+use Rattle.structure_commands.specs.plan_rules.Expanded.{expanded}
+use Rattle.structure_commands.specs.tree_rules.Claim.{Claim, Network, network, infeasible, unknown}
+use Rattle.structure_commands.specs.tree_rules.Accepted.{Tree}
+use Rattle.structure_commands.specs.tree_rules.Tail.{Tail, whole, spent, past}
+use Rattle.structure_commands.specs.report_rules.declared.spot.Spot.{Spot}
+use Rattle.structure_commands.specs.report_rules.declared.spot.SpotKind.{SpotKind}
+use Rattle.structure_commands.specs.report_rules.Spot.{valued}
+use Rattle.structure_commands.specs.studio_rules.Command.{Alternatives}
+use Rattle.structure_commands.specs.studio_rules.Command.{Command, Flows, Solving, Showing, Ranking}
+use Rattle.structure_commands.specs.studio_rules.Command.{Trial, Ranging}
+use Rattle.structure_commands.specs.studio_rules.Command.{Planning, Parting, PartingAgainst}
+use Rattle.structure_commands.specs.studio_rules.Command.{command_of}
+use Rattle.structure_commands.specs.studio_rules.Reading.{AreHeld}
+use Rattle.structure_commands.specs.studio_rules.TreeFile.{TreeFault, OnTree}
+use Rattle.structure_commands.specs.studio_rules.HeadedFile.{AnyHead, HeadedFault, OnHeaded}
+use Rattle.structure_commands.specs.studio_rules.Plan.{PlanFileFault, OnPlan}
+use Rattle.structure_commands.specs.studio_rules.Flows.{FlowNamesSay, UnitsSay, FlowsSay}
+use Rattle.structure_commands.specs.studio_rules.Flows.{StaysInRange}
+use Rattle.structure_commands.specs.studio_rules.Axioms.{units_named, first_stranger}
+use Rattle.structure_commands.specs.studio_rules.Start.{OnStart}
+use Rattle.structure_commands.specs.studio_rules.Part.{HoldsFrom, PartSays, ClaimSays}
+use Rattle.structure_commands.specs.studio_rules.Periods.{PeriodsWork}
+use Rattle.structure_commands.specs.studio_rules.Stable.{spot_named, SpotWork, NamedWork}
+use Rattle.structure_commands.specs.studio_rules.Stable.{StableWork, CanRange}
+use Rattle.structure_commands.specs.studio_rules.Solve.{status_of, CanFinish}
+use Rattle.structure_commands.specs.studio_rules.Ending.{Ends}
+use Rattle.structure_commands.specs.studio_rules.Answers.{AnswersTo, CommandAnswers, WordsSay}
+use Rattle.structure_commands.specs.studio_rules.Answers.{IsNotStopped}
+use Rattle.structure_commands.specs.studio_rules.Answers.{SearchCanFinish, PlanCanFinish}
+use Rattle.structure_commands.specs.studio_rules.Answers.{RangeCanFinish}
+use Rattle.structure_commands.specs.studio_rules.declared.status.Status.{Status}
+use Rattle.structure_commands.specs.studio_rules.declared.status.Status.TheVariants.{Done, Refused}
+use Rattle.structure_commands.specs.studio_rules.declared.status.Status.TheVariants.{Past, Spent}
+use Rattle.structure_commands.specs.studio_rules.declared.status.Status.TheVariants.{ReadFault}
+use Rattle.structure_commands.specs.studio_rules.declared.status.Status.TheVariants.{WriteFault}
+use Rattle.structure_commands.specs.studio_rules.declared.status.Status.TheVariants.{Memory}
+use Rattle.structure_commands.specs.studio_rules.declared.status.Status.TheVariants.{TooLong}
+use Rattle.structure_commands.specs.studio_rules.declared.status.Status.TheVariants.{BadTree}
+use Rattle.structure_commands.specs.studio_rules.declared.status.Status.TheVariants.{BadPlan}
+use Rattle.structure_commands.specs.studio_rules.declared.status.Status.TheVariants.{BadNode}
+use Rattle.structure_commands.specs.studio_rules.declared.status.Status.TheVariants.{NotBest}
+use Rattle.structure_commands.specs.studio_rules.declared.status.Status.TheVariants.{UnknownName}
+use Rattle.structure_commands.specs.studio_rules.declared.status.Status.TheVariants.{BadClaim}
 use Rattle.studio.proofs.Statuses.{finished, show_finished, rank_finished, search_finished}
 use Rattle.studio.proofs.Statuses.{fault_not_stopped, plan_status, tree_status, headed_status}
 use Rattle.studio.proofs.Statuses.{alternatives_finished, solve_finished}

@@ -3,44 +3,50 @@ use Rattle.std.proofs.Common.{◌≡◌, ◌⊎◌, ◌≤◌, ◌+◌, ◌++◌
 use Rattle.std.proofs.Common.{false, ℕ, zero, suc, List, Option, Some, None, Result, Ok, Err, codes}
 use Rattle.std.proofs.Common.{length, get_or, refl, sym, ap, subst, ◌∙◌, arith, inl, inr}
 use Rattle.std.proofs.Common.{if◌then◌else◌}
-use Rattle.text_rules.specs.Outside.{Told}
-use Rattle.problem_rules.specs.Each.{Each}
-use Rattle.problem_rules.specs.Problem.{Problem}
-use Rattle.problem_rules.specs.Validity.{IsValid}
-use Rattle.text_laws.proofs.Each.{each-append}
-use Rattle.pns_rules.specs.Shape.{Shape, shape_of}
-use Rattle.pns_rules.specs.Nodes.{Node}
-use Rattle.tree_rules.specs.Tree.{End, branch, leaf, TreeNode, Pass, Stands, after_all, below}
-use Rattle.tree_rules.specs.Leaf.{Leaf, dead, clash, refuted, bounded, charged, untried, LeafPasses}
-use Rattle.tree_rules.specs.Claim.{Claim, Network, network, infeasible, unknown, claimed_cost}
-use Rattle.tree_rules.specs.Accepted.{Tree, first_node, IsPartial, IsAccepted}
-use Rattle.tree_laws.specs.Laws.{PartialIsAccepted}
-use Rattle.tree_rules.specs.Known.{KnowsStep, KnowsNode, KnowsTree, AreUnits}
-use Rattle.tree_rules.specs.Tail.{Tail, whole}
-use Rattle.tree_text_rules.specs.Graft.{graft_at, grafted, claim_of_both, cheaper, has_open, is_open}
-use Rattle.tree_text_rules.specs.OpenLeaves.{OpenAt, IsAmong, open_here, open_leaves}
-use Rattle.tree_parts.specs.Laws.{OpenLeavesStand, GraftIsTree}
-use Rattle.tree_text_rules.specs.Read.{Certificate, Fault, read_text}
-use Rattle.tree_text_rules.specs.Spelling.{tree_text, tree_text_lines}
-use Rattle.tree_text_laws.specs.Fits.{CountsTree, FitsClaim, FitsTree}
-use Rattle.tree_text_laws.specs.LineFits.{CountsEnd}
-use Rattle.tree_text_laws.specs.Laws.{SpelledTextsRead, ReadTextsAreSpelled}
-use Rattle.tree_text_rules.specs.Part.{Part, start_of}
-use Rattle.tree_text_rules.specs.Several.{AreMerged}
-use Rattle.tree_parts.specs.PartLaws.{ReadPartsAreSpelled}
-use Rattle.studio_rules.specs.Reading.{AreHeld, GivesProblem, OnFile}
-use Rattle.studio_rules.specs.TreeFile.{TreeFault, GivesTree, OnTree, tree_limit}
-use Rattle.studio_rules.specs.HeadedFile.{HeadedSays, OnHeaded}
-use Rattle.studio_rules.specs.Check.{CheckWork}
-use Rattle.studio_rules.specs.PartFile.{GiveParts, are_several}
-use Rattle.studio_rules.specs.Split.{SplitWork, part_line, split_lines}
-use Rattle.studio_rules.specs.Merge.{MergeWork}
-use Rattle.studio_rules.specs.Command.{Checking, Splitting, Merging}
-use Rattle.studio_rules.specs.Lines.{line, text_of}
-use Rattle.studio_rules.specs.Printed.{spelled}
-use Rattle.command_files.proofs.Printing.{spelled_text}
-use Rattle.studio_rules.specs.declared.status.Status.{Status}
-use Rattle.studio_rules.specs.declared.status.Status.TheVariants.{Done, Refused, NoLeaf}
+use Rattle.structure_commands.specs.text_rules.Outside.{Told}
+use Rattle.structure_commands.specs.problem_rules.Each.{Each}
+use Rattle.structure_commands.specs.problem_rules.Problem.{Problem}
+use Rattle.structure_commands.specs.problem_rules.Validity.{IsValid}
+use Rattle.structure_commands.proofs.text_laws.Cited.{each-append}
+use Rattle.structure_commands.specs.pns_rules.Shape.{Shape, shape_of}
+use Rattle.structure_commands.specs.pns_rules.Nodes.{Node}
+use Rattle.structure_commands.specs.tree_rules.Tree.{End, branch, leaf, TreeNode, Pass, Stands}
+use Rattle.structure_commands.specs.tree_rules.Tree.{after_all, below}
+use Rattle.structure_commands.specs.tree_rules.Leaf.{Leaf, dead, clash, refuted, bounded, charged}
+use Rattle.structure_commands.specs.tree_rules.Leaf.{untried, LeafPasses}
+use Rattle.structure_commands.specs.tree_rules.Claim.{Claim, Network, network, infeasible, unknown}
+use Rattle.structure_commands.specs.tree_rules.Claim.{claimed_cost}
+use Rattle.structure_commands.specs.tree_rules.Accepted.{Tree, first_node, IsPartial, IsAccepted}
+use Rattle.structure_commands.specs.tree_laws.Laws.{PartialIsAccepted}
+use Rattle.structure_commands.specs.tree_rules.Known.{KnowsStep, KnowsNode, KnowsTree, AreUnits}
+use Rattle.structure_commands.specs.tree_rules.Tail.{Tail, whole}
+use Rattle.structure_commands.specs.tree_text_rules.Graft.{graft_at, grafted, claim_of_both}
+use Rattle.structure_commands.specs.tree_text_rules.Graft.{cheaper, has_open, is_open}
+use Rattle.structure_commands.specs.tree_text_rules.OpenLeaves.{OpenAt, IsAmong, open_here}
+use Rattle.structure_commands.specs.tree_text_rules.OpenLeaves.{open_leaves}
+use Rattle.part_commands.specs.tree_parts.Laws.{OpenLeavesStand, GraftIsTree}
+use Rattle.structure_commands.specs.tree_text_rules.Read.{Certificate, Fault, read_text}
+use Rattle.structure_commands.specs.tree_text_rules.Spelling.{tree_text, tree_text_lines}
+use Rattle.part_commands.specs.tree_text_laws.Fits.{CountsTree, FitsClaim, FitsTree}
+use Rattle.part_commands.specs.tree_text_laws.LineFits.{CountsEnd}
+use Rattle.part_commands.specs.tree_text_laws.Laws.{SpelledTextsRead, ReadTextsAreSpelled}
+use Rattle.structure_commands.specs.tree_text_rules.Part.{Part, start_of}
+use Rattle.structure_commands.specs.tree_text_rules.Several.{AreMerged}
+use Rattle.part_commands.specs.tree_parts.PartLaws.{ReadPartsAreSpelled}
+use Rattle.structure_commands.specs.studio_rules.Reading.{AreHeld, GivesProblem, OnFile}
+use Rattle.structure_commands.specs.studio_rules.TreeFile.{TreeFault, GivesTree, OnTree, tree_limit}
+use Rattle.structure_commands.specs.studio_rules.HeadedFile.{HeadedSays, OnHeaded}
+use Rattle.structure_commands.specs.studio_rules.Check.{CheckWork}
+use Rattle.structure_commands.specs.studio_rules.PartFile.{GiveParts, are_several}
+use Rattle.structure_commands.specs.studio_rules.Split.{SplitWork, part_line, split_lines}
+use Rattle.structure_commands.specs.studio_rules.Merge.{MergeWork}
+use Rattle.structure_commands.specs.studio_rules.Command.{Checking, Splitting, Merging}
+use Rattle.structure_commands.specs.studio_rules.Lines.{line, text_of}
+use Rattle.structure_commands.specs.studio_rules.Printed.{spelled}
+use Rattle.structure_commands.proofs.command_files.Cited.{spelled_text}
+use Rattle.structure_commands.specs.studio_rules.declared.status.Status.{Status}
+use Rattle.structure_commands.specs.studio_rules.declared.status.Status.TheVariants.{Done, Refused}
+use Rattle.structure_commands.specs.studio_rules.declared.status.Status.TheVariants.{NoLeaf}
 use Rattle.studio.specs.SolveLaws.{IsAcceptedOrLong}
 use Rattle.studio.specs.Calls.{Call, Calls, Puts, Holds, Accepts, HasFailed, CheckAcceptsMerged}
 use Rattle.studio.proofs.Accepted.{is_held, HeadLaws, read}

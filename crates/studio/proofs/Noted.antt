@@ -2,12 +2,12 @@
 use Rattle.std.proofs.Common.{◌≡◌, ◌≤◌, ℕ, List, Result, Ok, Err, OnOk, OnErr, codes}
 use Rattle.std.proofs.Common.{refl, sym, subst, arith, inl, inr}
 use Rattle.std.specs.Io.KnownBytes.{Appends}
-use Rattle.text_rules.specs.Outside.{HasRisen, AppendsFront, last_count}
-use Rattle.text_rules.specs.State.{SinkState, OutputsState}
-use Rattle.studio_rules.specs.Lines.{line}
-use Rattle.studio_rules.specs.Ending.{Ends, Finishes, HasFault, TakesFault}
-use Rattle.studio_rules.specs.declared.status.Status.{Status}
-use Rattle.studio_rules.specs.declared.status.Status.TheVariants.{WriteFault}
+use Rattle.structure_commands.specs.text_rules.Outside.{HasRisen, AppendsFront, last_count}
+use Rattle.structure_commands.specs.text_rules.State.{SinkState, OutputsState}
+use Rattle.structure_commands.specs.studio_rules.Lines.{line}
+use Rattle.structure_commands.specs.studio_rules.Ending.{Ends, Finishes, HasFault, TakesFault}
+use Rattle.structure_commands.specs.studio_rules.declared.status.Status.{Status}
+use Rattle.structure_commands.specs.studio_rules.declared.status.Status.TheVariants.{WriteFault}
 use Rattle.studio.specs.Noted.{ShowsFault, IsNoted}
 
 -- a count that rose and did not fall rose

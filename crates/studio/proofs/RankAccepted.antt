@@ -1,25 +1,27 @@
 -- What `rank` and `alternatives` print with status 0 is accepted by `rankcheck`.
 use Rattle.std.proofs.Common.{◌≡◌, ◌≤◌, ℕ, false, List, Some, Result, Ok, Err, length, refl}
 use Rattle.std.proofs.Common.{sym, ◌∙◌, subst, inl, inr}
-use Rattle.problem_rules.specs.Problem.{Problem}
-use Rattle.rank_rules.specs.Ranked.{IsRanked}
-use Rattle.rank_laws.specs.Laws.{PassingNetworksHaveNoFault, PassingTreeHasNoFault}
-use Rattle.tree_rules.specs.Tail.{Tail, whole, spent, past}
-use Rattle.tree_text_rules.specs.Read.{Fault}
-use Rattle.rank_rules.specs.Text.{Text, ranking_of}
-use Rattle.rank_rules.specs.Read.{read_text}
-use Rattle.studio_rules.specs.Rank.{AreTextOf, Holds}
-use Rattle.studio_rules.specs.Alternates.{AlternatesHold}
-use Rattle.studio_rules.specs.Command.{RankChecking}
-use Rattle.studio_rules.specs.Answers.{CommandAnswers}
-use Rattle.text_rules.specs.Outside.{Told}
-use Rattle.studio_rules.specs.Rankcheck.{RankcheckSays, RankcheckWork}
-use Rattle.studio_rules.specs.Solve.{status_of}
-use Rattle.studio_rules.specs.Lines.{text_of}
-use Rattle.studio_rules.specs.declared.status.Status.{Status}
-use Rattle.studio_rules.specs.declared.status.Status.TheVariants.{Done, Refused, BadTree, TooLong}
-use Rattle.studio_rules.specs.Reading.{AreHeld, FileFault, GivesProblem}
-use Rattle.studio_rules.specs.TreeFile.{tree_limit}
+use Rattle.structure_commands.specs.problem_rules.Problem.{Problem}
+use Rattle.structure_commands.specs.rank_rules.Ranked.{IsRanked}
+use Rattle.part_commands.specs.rank_laws.Laws.{PassingNetworksHaveNoFault, PassingTreeHasNoFault}
+use Rattle.structure_commands.specs.tree_rules.Tail.{Tail, whole, spent, past}
+use Rattle.structure_commands.specs.tree_text_rules.Read.{Fault}
+use Rattle.structure_commands.specs.rank_rules.Text.{Text, ranking_of}
+use Rattle.structure_commands.specs.rank_rules.Read.{read_text}
+use Rattle.structure_commands.specs.studio_rules.Rank.{AreTextOf, Holds}
+use Rattle.structure_commands.specs.studio_rules.Alternates.{AlternatesHold}
+use Rattle.structure_commands.specs.studio_rules.Command.{RankChecking}
+use Rattle.structure_commands.specs.studio_rules.Answers.{CommandAnswers}
+use Rattle.structure_commands.specs.text_rules.Outside.{Told}
+use Rattle.structure_commands.specs.studio_rules.Rankcheck.{RankcheckSays, RankcheckWork}
+use Rattle.structure_commands.specs.studio_rules.Solve.{status_of}
+use Rattle.structure_commands.specs.studio_rules.Lines.{text_of}
+use Rattle.structure_commands.specs.studio_rules.declared.status.Status.{Status}
+use Rattle.structure_commands.specs.studio_rules.declared.status.Status.TheVariants.{Done, Refused}
+use Rattle.structure_commands.specs.studio_rules.declared.status.Status.TheVariants.{BadTree}
+use Rattle.structure_commands.specs.studio_rules.declared.status.Status.TheVariants.{TooLong}
+use Rattle.structure_commands.specs.studio_rules.Reading.{AreHeld, FileFault, GivesProblem}
+use Rattle.structure_commands.specs.studio_rules.TreeFile.{tree_limit}
 use Rattle.studio.specs.SolveLaws.{IsAcceptedOrLong}
 use Rattle.studio.specs.RankLaws.{RankedIsAccepted, AlternativesAreAccepted}
 use Rattle.studio.proofs.Accepted.{is_held, no_fault, one_problem}

@@ -3,90 +3,111 @@ use Rattle.std.specs.List.{Contains}
 use Rattle.std.proofs.Common.{Bool, sym, ◌∙◌, ◌≡◌, ◌⊎◌, ◌<◌, ◌≤◌, ◌∷◌, [], Some, None, IsSomeAnd}
 use Rattle.std.proofs.Common.{true, false, refl, inl, inr, List, ℕ, Option, subst, ap, arith}
 use Rattle.std.proofs.Common.{length}
-use Rattle.problem_rules.specs.Problem.{Problem}
-use Rattle.edit_rules.specs.Edit.{Edit}
-use Rattle.pns_rules.specs.declared.verdict.Verdict.{Verdict}
-use Rattle.pns_rules.specs.declared.verdict.Verdict.TheVariants.{Meets, Breaks}
-use Rattle.text_rules.specs.Outside.{HasRisen, Told, IsToldAnd}
-use Rattle.text_rules.specs.State.{ShelfState, OutputsState}
-use Rattle.studio_rules.specs.Command.{Command, Max, Axioms, Flows, Listing, Linting, Make}
-use Rattle.studio_rules.specs.Command.{Migrate}
-use Rattle.studio_rules.specs.Command.{Editing, Undoing, Checking, RankChecking, Solving, Showing}
-use Rattle.studio_rules.specs.Command.{Alternatives}
-use Rattle.studio_rules.specs.Command.{Ranking, Trial, Telling, command_of, IsFileOf, IsFileWord}
-use Rattle.studio_rules.specs.Command.{Table, Splitting, Expanding, Drawing, DrawingNetwork}
-use Rattle.studio_rules.specs.Command.{Reporting, Json, Ranging, Planning, Parting}
-use Rattle.studio_rules.specs.Command.{PartingAgainst}
-use Rattle.studio_rules.specs.Command.{Merging, RangingAll}
-use Rattle.studio_rules.specs.Reading.{AreHeld, FileFault, file_limit}
-use Rattle.studio_rules.specs.Max.{MaxWork}
-use Rattle.studio_rules.specs.Lint.{LintWork}
-use Rattle.studio_rules.specs.Listing.{ListingWork}
-use Rattle.studio_rules.specs.Migrate.{MigrateWork}
-use Rattle.studio_rules.specs.Flows.{FlowNamesSay, UnitsSay, FlowsSay}
-use Rattle.studio_rules.specs.Script.{ScriptFault, OnScript}
-use Rattle.studio_rules.specs.Plan.{PlanFileFault, OnPlan}
-use Rattle.studio_rules.specs.Expand.{ExpandWork}
-use Rattle.plan_rules.specs.Plan.{Plan}
-use Rattle.studio_rules.specs.Edits.{EditWork, UndoWork}
-use Rattle.tree_rules.specs.Claim.{Claim, Network}
-use Rattle.tree_rules.specs.Accepted.{Tree}
-use Rattle.studio_rules.specs.TreeFile.{TreeFault, OnTree, tree_limit}
-use Rattle.tree_text_rules.specs.Read.{HeadedCertificate}
-use Rattle.studio_rules.specs.HeadedFile.{AnyHead, HeadedFault, HeadedSays, OnHeaded}
-use Rattle.studio_rules.specs.Check.{CheckWork}
-use Rattle.rank_rules.specs.Text.{Text}
-use Rattle.studio_rules.specs.Rank as rankings
-use Rattle.studio_rules.specs.Rank.{RankWork}
-use Rattle.studio_rules.specs.Alternates.{AlternatesHold, AlternatesWork}
-use Rattle.studio_rules.specs.Rankcheck.{RankFault, RankcheckWork, FilesListBest, AcceptedAreBest}
-use Rattle.studio_rules.specs.Network.{OnNetwork, ClaimRefusal}
-use Rattle.studio_rules.specs.Table.{TableWork}
-use Rattle.report_rules.specs.Measures.{Measures, measures_of}
-use Rattle.studio_rules.specs.Report.{ReportWork}
-use Rattle.studio_rules.specs.Json.{JsonWork}
-use Rattle.studio_rules.specs.RankReport.{RankReportWork}
-use Rattle.studio_rules.specs.RankJson.{RankJsonWork}
-use Rattle.studio_rules.specs.RankGraph.{RankGraphWork}
-use Rattle.studio_rules.specs.TextFile.{by_kind, RankSays, EitherSays, OnEither}
-use Rattle.studio_rules.specs.RangesJson.{TableSays, OnAny}
-use Rattle.report_rules.specs.RangeTable.{is_table}
-use Rattle.rank_rules.specs.Headed.{is_ranking}
-use Rattle.studio_rules.specs.Graph.{PlantGraphWork, NetworkGraphWork}
-use Rattle.studio_rules.specs.Split.{SplitWork}
-use Rattle.studio_rules.specs.PartFile.{PartFault, FirstFault, are_several}
-use Rattle.studio_rules.specs.Merge.{MergeWork, MergeSays, FaultSays}
-use Rattle.tree_text_rules.specs.declared.merge_fault.MergeFault.{MergeFault}
-use Rattle.tree_text_rules.specs.declared.merge_fault.MergeFault.TheVariants as merging
-use Rattle.tree_rules.specs.declared.refusal.Refusal.TheVariants as refusals
-use Rattle.studio_rules.specs.Start.{OnStart}
-use Rattle.studio_rules.specs.Part.{PartSays, PartWork, ClaimSays, AgainstWork}
-use Rattle.tree_rules.specs.Claim.{network, infeasible, unknown}
-use Rattle.studio_rules.specs.Periods.{PeriodsWork}
-use Rattle.report_rules.specs.declared.spot.Spot.{Spot}
-use Rattle.report_rules.specs.declared.spot.SpotKind.{SpotKind}
-use Rattle.studio_rules.specs.Stable.{spot_named, SpotWork, NamedWork, StableWork}
-use Rattle.studio_rules.specs.StableTable.{RangesWork}
-use Rattle.studio_rules.specs.Best.{FilesClaimBest, AcceptedIsBest}
-use Rattle.tree_rules.specs.Tail.{Tail, whole, spent, past}
-use Rattle.problem_rules.specs.Generated.{generated}
-use Rattle.studio_rules.specs.Solve.{PlainWork, SolveWork, Holds, status_of, CanFinish}
-use Rattle.studio_rules.specs.Show.{ShowWork}
-use Rattle.studio_rules.specs.Summary.{SummaryWork}
-use Rattle.studio_rules.specs.Axioms.{NamesSay, VerdictSays, first_stranger}
-use Rattle.studio_rules.specs.Ending.{Ends, IsOneOf, HasFault}
-use Rattle.studio_rules.specs.Answers.{AnswersTo, CommandAnswers, WordsSay, IsReadWithin}
-use Rattle.studio_rules.specs.Answers.{IsUndisturbed, IsNotStopped, statuses_of, first_file}
-use Rattle.studio_rules.specs.declared.scene.Scene.{Scene}
-use Rattle.studio_rules.specs.declared.status.Status.{Status}
-use Rattle.studio_rules.specs.declared.status.Status.TheVariants.{Done, Refused, Usage}
-use Rattle.studio_rules.specs.declared.status.Status.TheVariants.{BadProblem}
-use Rattle.studio_rules.specs.declared.status.Status.TheVariants.{Past, Spent, ReadFault}
-use Rattle.studio_rules.specs.declared.status.Status.TheVariants.{WriteFault, Memory, TooLong}
-use Rattle.studio_rules.specs.declared.status.Status.TheVariants.{BadToken, BadTree, BadEdit}
-use Rattle.studio_rules.specs.declared.status.Status.TheVariants.{NotMigrated, BadPlan, BadNode}
-use Rattle.studio_rules.specs.declared.status.Status.TheVariants.{NoLeaf, NotBest, UnknownName}
-use Rattle.studio_rules.specs.declared.status.Status.TheVariants.{BadClaim}
+use Rattle.structure_commands.specs.problem_rules.Problem.{Problem}
+use Rattle.structure_commands.specs.edit_rules.Edit.{Edit}
+use Rattle.structure_commands.specs.pns_rules.declared.verdict.Verdict.{Verdict}
+use Rattle.structure_commands.specs.pns_rules.declared.verdict.Verdict.TheVariants.{Meets, Breaks}
+use Rattle.structure_commands.specs.text_rules.Outside.{HasRisen, Told, IsToldAnd}
+use Rattle.structure_commands.specs.text_rules.State.{ShelfState, OutputsState}
+use Rattle.structure_commands.specs.studio_rules.Command.{Command, Max, Axioms, Flows, Listing}
+use Rattle.structure_commands.specs.studio_rules.Command.{Linting, Make}
+use Rattle.structure_commands.specs.studio_rules.Command.{Migrate}
+use Rattle.structure_commands.specs.studio_rules.Command.{Editing, Undoing, Checking, RankChecking}
+use Rattle.structure_commands.specs.studio_rules.Command.{Solving, Showing}
+use Rattle.structure_commands.specs.studio_rules.Command.{Alternatives}
+use Rattle.structure_commands.specs.studio_rules.Command.{Ranking, Trial, Telling, command_of}
+use Rattle.structure_commands.specs.studio_rules.Command.{IsFileOf, IsFileWord}
+use Rattle.structure_commands.specs.studio_rules.Command.{Table, Splitting, Expanding, Drawing}
+use Rattle.structure_commands.specs.studio_rules.Command.{DrawingNetwork}
+use Rattle.structure_commands.specs.studio_rules.Command.{Reporting, Json, Ranging, Planning}
+use Rattle.structure_commands.specs.studio_rules.Command.{Parting}
+use Rattle.structure_commands.specs.studio_rules.Command.{PartingAgainst}
+use Rattle.structure_commands.specs.studio_rules.Command.{Merging, RangingAll}
+use Rattle.structure_commands.specs.studio_rules.Reading.{AreHeld, FileFault, file_limit}
+use Rattle.structure_commands.specs.studio_rules.Max.{MaxWork}
+use Rattle.structure_commands.specs.studio_rules.Lint.{LintWork}
+use Rattle.structure_commands.specs.studio_rules.Listing.{ListingWork}
+use Rattle.structure_commands.specs.studio_rules.Migrate.{MigrateWork}
+use Rattle.structure_commands.specs.studio_rules.Flows.{FlowNamesSay, UnitsSay, FlowsSay}
+use Rattle.structure_commands.specs.studio_rules.Script.{ScriptFault, OnScript}
+use Rattle.structure_commands.specs.studio_rules.Plan.{PlanFileFault, OnPlan}
+use Rattle.structure_commands.specs.studio_rules.Expand.{ExpandWork}
+use Rattle.structure_commands.specs.plan_rules.Plan.{Plan}
+use Rattle.structure_commands.specs.studio_rules.Edits.{EditWork, UndoWork}
+use Rattle.structure_commands.specs.tree_rules.Claim.{Claim, Network}
+use Rattle.structure_commands.specs.tree_rules.Accepted.{Tree}
+use Rattle.structure_commands.specs.studio_rules.TreeFile.{TreeFault, OnTree, tree_limit}
+use Rattle.structure_commands.specs.tree_text_rules.Read.{HeadedCertificate}
+use Rattle.structure_commands.specs.studio_rules.HeadedFile.{AnyHead, HeadedFault, HeadedSays}
+use Rattle.structure_commands.specs.studio_rules.HeadedFile.{OnHeaded}
+use Rattle.structure_commands.specs.studio_rules.Check.{CheckWork}
+use Rattle.structure_commands.specs.rank_rules.Text.{Text}
+use Rattle.structure_commands.specs.studio_rules.Rank as rankings
+use Rattle.structure_commands.specs.studio_rules.Rank.{RankWork}
+use Rattle.structure_commands.specs.studio_rules.Alternates.{AlternatesHold, AlternatesWork}
+use Rattle.structure_commands.specs.studio_rules.Rankcheck.{RankFault, RankcheckWork, FilesListBest}
+use Rattle.structure_commands.specs.studio_rules.Rankcheck.{AcceptedAreBest}
+use Rattle.structure_commands.specs.studio_rules.Network.{OnNetwork, ClaimRefusal}
+use Rattle.structure_commands.specs.studio_rules.Table.{TableWork}
+use Rattle.structure_commands.specs.report_rules.Measures.{Measures, measures_of}
+use Rattle.structure_commands.specs.studio_rules.Report.{ReportWork}
+use Rattle.structure_commands.specs.studio_rules.Json.{JsonWork}
+use Rattle.structure_commands.specs.studio_rules.RankReport.{RankReportWork}
+use Rattle.structure_commands.specs.studio_rules.RankJson.{RankJsonWork}
+use Rattle.structure_commands.specs.studio_rules.RankGraph.{RankGraphWork}
+use Rattle.structure_commands.specs.studio_rules.TextFile.{by_kind, RankSays, EitherSays, OnEither}
+use Rattle.structure_commands.specs.studio_rules.RangesJson.{TableSays, OnAny}
+use Rattle.structure_commands.specs.report_rules.RangeTable.{is_table}
+use Rattle.structure_commands.specs.rank_rules.Headed.{is_ranking}
+use Rattle.structure_commands.specs.studio_rules.Graph.{PlantGraphWork, NetworkGraphWork}
+use Rattle.structure_commands.specs.studio_rules.Split.{SplitWork}
+use Rattle.structure_commands.specs.studio_rules.PartFile.{PartFault, FirstFault, are_several}
+use Rattle.structure_commands.specs.studio_rules.Merge.{MergeWork, MergeSays, FaultSays}
+use Rattle.structure_commands.specs.tree_text_rules.declared.merge_fault.MergeFault.{MergeFault}
+use Rattle.structure_commands.specs.tree_text_rules.declared.merge_fault.MergeFault.TheVariants as merging
+use Rattle.structure_commands.specs.tree_rules.declared.refusal.Refusal.TheVariants as refusals
+use Rattle.structure_commands.specs.studio_rules.Start.{OnStart}
+use Rattle.structure_commands.specs.studio_rules.Part.{PartSays, PartWork, ClaimSays, AgainstWork}
+use Rattle.structure_commands.specs.tree_rules.Claim.{network, infeasible, unknown}
+use Rattle.structure_commands.specs.studio_rules.Periods.{PeriodsWork}
+use Rattle.structure_commands.specs.report_rules.declared.spot.Spot.{Spot}
+use Rattle.structure_commands.specs.report_rules.declared.spot.SpotKind.{SpotKind}
+use Rattle.structure_commands.specs.studio_rules.Stable.{spot_named, SpotWork, NamedWork}
+use Rattle.structure_commands.specs.studio_rules.Stable.{StableWork}
+use Rattle.structure_commands.specs.studio_rules.StableTable.{RangesWork}
+use Rattle.structure_commands.specs.studio_rules.Best.{FilesClaimBest, AcceptedIsBest}
+use Rattle.structure_commands.specs.tree_rules.Tail.{Tail, whole, spent, past}
+use Rattle.structure_commands.specs.problem_rules.Generated.{generated}
+use Rattle.structure_commands.specs.studio_rules.Solve.{PlainWork, SolveWork, Holds, status_of}
+use Rattle.structure_commands.specs.studio_rules.Solve.{CanFinish}
+use Rattle.structure_commands.specs.studio_rules.Show.{ShowWork}
+use Rattle.structure_commands.specs.studio_rules.Summary.{SummaryWork}
+use Rattle.structure_commands.specs.studio_rules.Axioms.{NamesSay, VerdictSays, first_stranger}
+use Rattle.structure_commands.specs.studio_rules.Ending.{Ends, IsOneOf, HasFault}
+use Rattle.structure_commands.specs.studio_rules.Answers.{AnswersTo, CommandAnswers, WordsSay}
+use Rattle.structure_commands.specs.studio_rules.Answers.{IsReadWithin}
+use Rattle.structure_commands.specs.studio_rules.Answers.{IsUndisturbed, IsNotStopped, statuses_of}
+use Rattle.structure_commands.specs.studio_rules.Answers.{first_file}
+use Rattle.structure_commands.specs.studio_rules.declared.scene.Scene.{Scene}
+use Rattle.structure_commands.specs.studio_rules.declared.status.Status.{Status}
+use Rattle.structure_commands.specs.studio_rules.declared.status.Status.TheVariants.{Done, Refused}
+use Rattle.structure_commands.specs.studio_rules.declared.status.Status.TheVariants.{Usage}
+use Rattle.structure_commands.specs.studio_rules.declared.status.Status.TheVariants.{BadProblem}
+use Rattle.structure_commands.specs.studio_rules.declared.status.Status.TheVariants.{Past, Spent}
+use Rattle.structure_commands.specs.studio_rules.declared.status.Status.TheVariants.{ReadFault}
+use Rattle.structure_commands.specs.studio_rules.declared.status.Status.TheVariants.{WriteFault}
+use Rattle.structure_commands.specs.studio_rules.declared.status.Status.TheVariants.{Memory}
+use Rattle.structure_commands.specs.studio_rules.declared.status.Status.TheVariants.{TooLong}
+use Rattle.structure_commands.specs.studio_rules.declared.status.Status.TheVariants.{BadToken}
+use Rattle.structure_commands.specs.studio_rules.declared.status.Status.TheVariants.{BadTree}
+use Rattle.structure_commands.specs.studio_rules.declared.status.Status.TheVariants.{BadEdit}
+use Rattle.structure_commands.specs.studio_rules.declared.status.Status.TheVariants.{NotMigrated}
+use Rattle.structure_commands.specs.studio_rules.declared.status.Status.TheVariants.{BadPlan}
+use Rattle.structure_commands.specs.studio_rules.declared.status.Status.TheVariants.{BadNode}
+use Rattle.structure_commands.specs.studio_rules.declared.status.Status.TheVariants.{NoLeaf}
+use Rattle.structure_commands.specs.studio_rules.declared.status.Status.TheVariants.{NotBest}
+use Rattle.structure_commands.specs.studio_rules.declared.status.Status.TheVariants.{UnknownName}
+use Rattle.structure_commands.specs.studio_rules.declared.status.Status.TheVariants.{BadClaim}
 
 -- a file that gives no problem, within the limit or not
 fault_status : (name file : List ℕ) (s : Status) (lines : List (List ℕ))

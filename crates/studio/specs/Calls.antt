@@ -1,18 +1,22 @@
 -- Laws over calls of `studio` one after another: what one call put out another accepts, or goes on
 -- from, if the problem file stays as it is between the calls.
 use Rattle.std.specs.Prelude.{◌≡◌, ◌⊎◌, ◌≤◌, ◌<◌, ◌+◌, ◌++◌, ℕ, List, [], ◌∷◌, Some, length, codes}
-use Rattle.text_rules.specs.State.{ShelfState, OutputsState}
-use Rattle.studio_rules.specs.TreeFile.{tree_limit}
-use Rattle.studio_rules.specs.Command.{Command, Listing, Checking, RankChecking, Solving, Ranking}
-use Rattle.studio_rules.specs.Command.{Alternatives}
-use Rattle.studio_rules.specs.Command.{Splitting, Merging, command_of}
-use Rattle.studio_rules.specs.Lines.{line, text_of}
-use Rattle.studio_rules.specs.Ending.{Finishes, Writes, IsOneOf}
-use Rattle.studio_rules.specs.Keeps.{Keeps}
-use Rattle.studio_rules.specs.declared.status.Status.{Status}
-use Rattle.studio_rules.specs.declared.status.Status.TheVariants.{Done, ReadFault, WriteFault}
-use Rattle.studio_rules.specs.declared.status.Status.TheVariants.{Memory, TooLong}
-use Rattle.studio_rules.specs.Answers.{WordsSay}
+use Rattle.structure_commands.specs.text_rules.State.{ShelfState, OutputsState}
+use Rattle.structure_commands.specs.studio_rules.TreeFile.{tree_limit}
+use Rattle.structure_commands.specs.studio_rules.Command.{Command, Listing, Checking, RankChecking}
+use Rattle.structure_commands.specs.studio_rules.Command.{Solving, Ranking}
+use Rattle.structure_commands.specs.studio_rules.Command.{Alternatives}
+use Rattle.structure_commands.specs.studio_rules.Command.{Splitting, Merging, command_of}
+use Rattle.structure_commands.specs.studio_rules.Lines.{line, text_of}
+use Rattle.structure_commands.specs.studio_rules.Ending.{Finishes, Writes, IsOneOf}
+use Rattle.structure_commands.specs.studio_rules.Keeps.{Keeps}
+use Rattle.structure_commands.specs.studio_rules.declared.status.Status.{Status}
+use Rattle.structure_commands.specs.studio_rules.declared.status.Status.TheVariants.{Done}
+use Rattle.structure_commands.specs.studio_rules.declared.status.Status.TheVariants.{ReadFault}
+use Rattle.structure_commands.specs.studio_rules.declared.status.Status.TheVariants.{WriteFault}
+use Rattle.structure_commands.specs.studio_rules.declared.status.Status.TheVariants.{Memory}
+use Rattle.structure_commands.specs.studio_rules.declared.status.Status.TheVariants.{TooLong}
+use Rattle.structure_commands.specs.studio_rules.Answers.{WordsSay}
 
 -- A call: its words, the shelf and the outputs before and after, and the status with which the call
 -- ended.

@@ -1,10 +1,10 @@
 -- What standard error shows of a fault of an output.
 use Rattle.std.specs.Prelude.{◌≡◌, ◌≤◌}
-use Rattle.text_rules.specs.Outside.{last_count}
-use Rattle.text_rules.specs.State.{OutputsState}
-use Rattle.studio_rules.specs.Ending.{TakesFault}
-use Rattle.studio_rules.specs.declared.status.Status.{Status}
-use Rattle.studio_rules.specs.declared.status.Status.TheVariants.{WriteFault}
+use Rattle.structure_commands.specs.text_rules.Outside.{last_count}
+use Rattle.structure_commands.specs.text_rules.State.{OutputsState}
+use Rattle.structure_commands.specs.studio_rules.Ending.{TakesFault}
+use Rattle.structure_commands.specs.studio_rules.declared.status.Status.{Status}
+use Rattle.structure_commands.specs.studio_rules.declared.status.Status.TheVariants.{WriteFault}
 
 -- between two states of the outputs, standard error took the line `write fault`, or failed
 pub record ShowsFault (old new : OutputsState) : Type 0 where

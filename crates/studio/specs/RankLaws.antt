@@ -1,11 +1,11 @@
 -- Laws over what `rank`, `alternatives` and `rankcheck` print.
 use Rattle.std.specs.Prelude.{◌≡◌, ℕ, List, Some}
-use Rattle.text_rules.specs.Outside.{Told}
-use Rattle.studio_rules.specs.Lines.{text_of}
-use Rattle.studio_rules.specs.declared.status.Status.{Status}
-use Rattle.studio_rules.specs.declared.status.Status.TheVariants.{Done}
-use Rattle.studio_rules.specs.Command.{Ranking, Alternatives, RankChecking}
-use Rattle.studio_rules.specs.Answers.{CommandAnswers}
+use Rattle.structure_commands.specs.text_rules.Outside.{Told}
+use Rattle.structure_commands.specs.studio_rules.Lines.{text_of}
+use Rattle.structure_commands.specs.studio_rules.declared.status.Status.{Status}
+use Rattle.structure_commands.specs.studio_rules.declared.status.Status.TheVariants.{Done}
+use Rattle.structure_commands.specs.studio_rules.Command.{Ranking, Alternatives, RankChecking}
+use Rattle.structure_commands.specs.studio_rules.Answers.{CommandAnswers}
 use Rattle.studio.specs.SolveLaws.{IsAcceptedOrLong}
 
 -- What `rank` prints with status 0 is accepted by `rankcheck` with the same problem file, or it is

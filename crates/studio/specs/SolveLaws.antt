@@ -1,12 +1,12 @@
 -- A law over what `solve` and `check` print.
 use Rattle.std.specs.Prelude.{◌≡◌, ◌⊎◌, ◌≤◌, ◌<◌, ◌++◌, ℕ, List, [], ◌∷◌, Some, length, codes}
-use Rattle.text_rules.specs.Outside.{Told}
-use Rattle.studio_rules.specs.Lines.{text_of}
-use Rattle.studio_rules.specs.declared.status.Status.{Status}
-use Rattle.studio_rules.specs.declared.status.Status.TheVariants.{Done, TooLong}
-use Rattle.studio_rules.specs.Command.{Solving, Checking}
-use Rattle.studio_rules.specs.TreeFile.{tree_limit}
-use Rattle.studio_rules.specs.Answers.{CommandAnswers}
+use Rattle.structure_commands.specs.text_rules.Outside.{Told}
+use Rattle.structure_commands.specs.studio_rules.Lines.{text_of}
+use Rattle.structure_commands.specs.studio_rules.declared.status.Status.{Status}
+use Rattle.structure_commands.specs.studio_rules.declared.status.Status.TheVariants.{Done, TooLong}
+use Rattle.structure_commands.specs.studio_rules.Command.{Solving, Checking}
+use Rattle.structure_commands.specs.studio_rules.TreeFile.{tree_limit}
+use Rattle.structure_commands.specs.studio_rules.Answers.{CommandAnswers}
 
 -- `accepted`, or that the tree file is too long if it is above its limit
 abbrev pub IsAcceptedOrLong : List ℕ → List ℕ → Status → List (List ℕ) → Type 0

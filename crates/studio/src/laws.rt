@@ -7,14 +7,14 @@ ghost use Rattle.studio.specs.Calls.{CheckAcceptsSolved, RankcheckAcceptsRanked}
 ghost use Rattle.studio.specs.Calls.{RankcheckAcceptsAlternatives};
 ghost use Rattle.studio.specs.Calls.{CheckAcceptsMerged, ListingsJoin};
 
-use tree_laws::{empty_head_is_none, tree_has_one_fault_by};
-use tree_rules::one_fault;
-use tree_parts::{grafts_are_partial, open_leaves_stand};
-use tree_parts::read_parts_are_spelled;
-use problem_rules::valid_is_well_formed;
-use rank_laws::{network_has_one_fault, ranking_has_one_fault};
-use tree_laws::{claim_has_one_fault, open_leaves_decide};
-use tree_text_laws::{plain_texts_are_headed, read_texts_are_spelled, spelled_texts_read};
+use part_commands::{
+    grafts_are_partial, network_has_one_fault, open_leaves_stand, plain_texts_are_headed,
+    ranking_has_one_fault, read_parts_are_spelled, read_texts_are_spelled, spelled_texts_read,
+};
+use structure_commands::{
+    claim_has_one_fault, empty_head_is_none, one_fault, open_leaves_decide, tree_has_one_fault_by,
+    valid_is_well_formed,
+};
 
 /// A listing in parts is the listing at once. Each part begins after the last token of the part
 /// before.

@@ -15,10 +15,19 @@ mod call;
 mod laws;
 
 pub use call::studio;
-pub use command_files::code_of;
 pub use laws::{
     alternatives_are_accepted, check_accepts_merged, check_accepts_solved, listings_join,
     parts_join, rankcheck_accepts_alternatives, rankcheck_accepts_ranked, ranked_is_accepted,
     solved_is_accepted,
 };
-pub use studio_rules::Status;
+pub use part_commands::{
+    grafts_are_partial, open_leaves_stand, order_is_free, parts_are_read_once, push_six_digits,
+    read_parts_are_spelled, read_texts_are_spelled, spelled_texts_read,
+};
+pub use stability_commands::valued_is_valid;
+pub use structure_commands::{
+    FileShelf, MemShelf, MemSink, NoWatch, OutSink, Outputs, Progress, Sink, Status, Watch,
+    canonical_reads, claim_has_one_fault, code_of, expanded_is_valid, open_leaves_decide,
+    printed_scripts_read, scripts_are_undone, tree_has_one_fault, valid_is_proper,
+    valid_is_well_formed,
+};

@@ -1,9 +1,9 @@
 -- What the search for the maximal structure gives, said of the problem.
 use Rattle.std.proofs.Common.{◌≡◌, [], ℕ, List, Bool, false, ap, sym, subst}
 use Rattle.std.proofs.lemmas.Bool.{both_ways}
-use Rattle.number_sets.specs.Sets.{has, Avoids}
-use Rattle.pns_rules.specs.Shape.{Shape}
-use Rattle.pns_rules.specs.Structure.{Meets, IsStructure, IsBetween, IsUnion, mats}
+use Rattle.report_rules.specs.number_sets.Sets.{has, Avoids}
+use Rattle.report_rules.specs.pns_rules.Shape.{Shape}
+use Rattle.report_rules.specs.pns_rules.Structure.{Meets, IsStructure, IsBetween, IsUnion, mats}
 use Rattle.studio_rules.specs.Max.{IsMaximal, HasNoStructure}
 
 pub maximal_from : (g h : Shape) (w s : List ℕ) → g ≡ h → w ≡ [] → IsUnion g (has w) (has s)

@@ -2,10 +2,10 @@
 -- each at its least cost, with the tree that proves it. If the search stopped before its end: the
 -- networks that were found and the tree as far as it came. The lines are those of a rank text.
 use Rattle.std.specs.Prelude.{◌≡◌, ℕ, true, false, List}
-use Rattle.problem_rules.specs.Problem.{Problem}
-use Rattle.tree_rules.specs.Tail.{Tail}
-use Rattle.rank_rules.specs.Alternatives.{IsRight}
-use Rattle.rank_rules.specs.Text.{Text}
+use Rattle.report_rules.specs.problem_rules.Problem.{Problem}
+use Rattle.report_rules.specs.tree_rules.Tail.{Tail}
+use Rattle.report_rules.specs.rank_rules.Alternatives.{IsRight}
+use Rattle.report_rules.specs.rank_rules.Text.{Text}
 use Rattle.studio_rules.specs.Rank.{AreTextOf, Lists, HoldsAs}
 use Rattle.studio_rules.specs.Solve.{status_of}
 use Rattle.studio_rules.specs.declared.status.Status.{Status}

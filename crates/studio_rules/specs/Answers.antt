@@ -1,8 +1,8 @@
 -- What each command says, from its words and from what the shelf holds.
 use Rattle.std.specs.List.{Contains}
 use Rattle.std.specs.Prelude.{◌≡◌, ◌≤◌, ◌⊎◌, ℕ, List, [], ◌∷◌, Option, Some, None, length, codes}
-use Rattle.text_rules.specs.Outside.{HasRisen, Told, IsToldAnd}
-use Rattle.text_rules.specs.State.{ShelfState, OutputsState}
+use Rattle.report_rules.specs.text_rules.Outside.{HasRisen, Told, IsToldAnd}
+use Rattle.report_rules.specs.text_rules.State.{ShelfState, OutputsState}
 use Rattle.studio_rules.specs.Command.{Command, command_of, IsFileOf, IsFileWord}
 use Rattle.studio_rules.specs.Command.{Max, Axioms, Flows, Listing, Linting, Make, Migrate, Editing}
 use Rattle.studio_rules.specs.Command.{Undoing, Checking, RankChecking, Solving, Showing, Ranking}
@@ -10,10 +10,10 @@ use Rattle.studio_rules.specs.Command.{Trial, Telling}
 use Rattle.studio_rules.specs.Command.{Table, Splitting, Expanding, Drawing, DrawingNetwork}
 use Rattle.studio_rules.specs.Command.{Reporting, Json, Ranging, Planning, Parting, PartingAgainst}
 use Rattle.studio_rules.specs.Command.{Merging, Alternatives, RangingAll}
-use Rattle.problem_rules.specs.Generated.{generated}
-use Rattle.problem_rules.specs.Problem.{Problem}
-use Rattle.tree_rules.specs.Claim.{Network, network}
-use Rattle.tree_text_rules.specs.Read.{HeadedCertificate}
+use Rattle.report_rules.specs.problem_rules.Generated.{generated}
+use Rattle.report_rules.specs.problem_rules.Problem.{Problem}
+use Rattle.report_rules.specs.tree_rules.Claim.{Network, network}
+use Rattle.report_rules.specs.tree_text_rules.Read.{HeadedCertificate}
 use Rattle.plan_rules.specs.Plan.{Plan}
 use Rattle.plan_rules.specs.Expanded.{expanded}
 use Rattle.report_rules.specs.declared.spot.Spot.{Spot}

@@ -4,13 +4,13 @@ use Rattle.std.specs.Prelude.{◌≡◌, ◌==◌, ◌++◌, ℕ, Bool, false, L
 use Rattle.std.specs.Prelude.{codes, find, is_none}
 use Rattle.std.specs.List.{list_any, position}
 use Rattle.std.specs.Str.{bytes_eq}
-use Rattle.problem_rules.specs.Problem.{Problem, unit_names, material_at, unit_at}
-use Rattle.pns_rules.specs.Shape.{shape_of}
-use Rattle.pns_rules.specs.Verdict.{Judges}
-use Rattle.pns_rules.specs.declared.verdict.Axiom.{Axiom}
-use Rattle.pns_rules.specs.declared.verdict.Axiom.TheVariants.{S1, S2, S3, S4, S5}
-use Rattle.pns_rules.specs.declared.verdict.Verdict.{Verdict}
-use Rattle.pns_rules.specs.declared.verdict.Verdict.TheVariants.{Meets, Breaks}
+use Rattle.report_rules.specs.problem_rules.Problem.{Problem, unit_names, material_at, unit_at}
+use Rattle.report_rules.specs.pns_rules.Shape.{shape_of}
+use Rattle.report_rules.specs.pns_rules.Verdict.{Judges}
+use Rattle.report_rules.specs.pns_rules.declared.verdict.Axiom.{Axiom}
+use Rattle.report_rules.specs.pns_rules.declared.verdict.Axiom.TheVariants.{S1, S2, S3, S4, S5}
+use Rattle.report_rules.specs.pns_rules.declared.verdict.Verdict.{Verdict}
+use Rattle.report_rules.specs.pns_rules.declared.verdict.Verdict.TheVariants.{Meets, Breaks}
 use Rattle.studio_rules.specs.declared.status.Status.{Status}
 use Rattle.studio_rules.specs.declared.status.Status.TheVariants.{Done, Refused}
 

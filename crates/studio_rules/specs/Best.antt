@@ -1,16 +1,17 @@
 -- What it means that a claim is best, over clash-free solution structures and their flows alone: no
 -- tree is named here.
 use Rattle.std.specs.Prelude.{◌≡◌, ℕ, ℤ, ◌*ℤ◌, ◌≤ℤ◌, Bool, List}
-use Rattle.text_rules.specs.Outside.{Told}
-use Rattle.number_sets.specs.Sets.{has}
-use Rattle.problem_rules.specs.Problem.{Problem}
-use Rattle.problem_rules.specs.Validity.{IsValid}
-use Rattle.pns_rules.specs.Shape.{shape_of}
-use Rattle.pns_rules.specs.Structure.{IsStructure, IsAllowed}
-use Rattle.flow_rules.specs.Net.{net_of}
-use Rattle.flow_rules.specs.Flows.{IsFlows, cost}
-use Rattle.tree_rules.specs.Claim.{Network, size_in, Claim, network, infeasible, unknown}
-use Rattle.tree_text_rules.specs.Read.{HeadedCertificate}
+use Rattle.report_rules.specs.text_rules.Outside.{Told}
+use Rattle.report_rules.specs.number_sets.Sets.{has}
+use Rattle.report_rules.specs.problem_rules.Problem.{Problem}
+use Rattle.report_rules.specs.problem_rules.Validity.{IsValid}
+use Rattle.report_rules.specs.pns_rules.Shape.{shape_of}
+use Rattle.report_rules.specs.pns_rules.Structure.{IsStructure, IsAllowed}
+use Rattle.report_rules.specs.flow_rules.Net.{net_of}
+use Rattle.report_rules.specs.flow_rules.Flows.{IsFlows, cost}
+use Rattle.report_rules.specs.tree_rules.Claim.{Network, size_in, Claim, network, infeasible}
+use Rattle.report_rules.specs.tree_rules.Claim.{unknown}
+use Rattle.report_rules.specs.tree_text_rules.Read.{HeadedCertificate}
 use Rattle.studio_rules.specs.Reading.{AreHeld, GivesProblem, OnFile}
 use Rattle.studio_rules.specs.HeadedFile.{GivesHeaded, OnHeaded}
 use Rattle.studio_rules.specs.Check.{CheckWork}

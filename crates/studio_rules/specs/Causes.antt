@@ -3,23 +3,23 @@
 -- printed is named here.
 use Rattle.std.specs.Prelude.{◌≡◌, ◌<◌, ◌≤◌, ◌⊎◌, ℕ, true, List, [], ◌∷◌, Some, None, IsSome, Err}
 use Rattle.std.specs.Prelude.{length, pos}
-use Rattle.text_rules.specs.Outside.{Told}
-use Rattle.problem_rules.specs.Problem.{Problem}
-use Rattle.pns_rules.specs.Shape.{shape_of}
-use Rattle.text_rules.specs.declared.TextKind.{TextKind}
-use Rattle.edit_rules.specs.Migration.{has_payout, out_of_range_at}
-use Rattle.edit_rules.specs.declared.EditKind.{EditKind}
+use Rattle.report_rules.specs.text_rules.Outside.{Told}
+use Rattle.report_rules.specs.problem_rules.Problem.{Problem}
+use Rattle.report_rules.specs.pns_rules.Shape.{shape_of}
+use Rattle.report_rules.specs.text_rules.declared.TextKind.{TextKind}
+use Rattle.report_rules.specs.edit_rules.Migration.{has_payout, out_of_range_at}
+use Rattle.report_rules.specs.edit_rules.declared.EditKind.{EditKind}
 use Rattle.plan_rules.specs.declared.PlanKind.{PlanKind}
 use Rattle.plan_rules.specs.Meaning.{read_plan}
-use Rattle.tree_rules.specs.Claim.{Claim}
-use Rattle.tree_rules.specs.Accepted.{Tree}
-use Rattle.tree_text_rules.specs.declared.TreeKind.{TreeKind}
-use Rattle.tree_text_rules.specs.Read as trees
-use Rattle.rank_rules.specs.Read as ranks
-use Rattle.rank_rules.specs.Headed.{is_ranking}
+use Rattle.report_rules.specs.tree_rules.Claim.{Claim}
+use Rattle.report_rules.specs.tree_rules.Accepted.{Tree}
+use Rattle.report_rules.specs.tree_text_rules.declared.TreeKind.{TreeKind}
+use Rattle.report_rules.specs.tree_text_rules.Read as trees
+use Rattle.report_rules.specs.rank_rules.Read as ranks
+use Rattle.report_rules.specs.rank_rules.Headed.{is_ranking}
 use Rattle.report_rules.specs.RangeTable.{is_table, read_table}
-use Rattle.tree_text_rules.specs.Part.{Part}
-use Rattle.tree_text_rules.specs.PartRead.{PartReads}
+use Rattle.report_rules.specs.tree_text_rules.Part.{Part}
+use Rattle.report_rules.specs.tree_text_rules.PartRead.{PartReads}
 use Rattle.report_rules.specs.declared.spot.SpotKind.{SpotKind}
 use Rattle.studio_rules.specs.Reading.{AreHeld, GivesProblem, Reads, file_limit}
 use Rattle.studio_rules.specs.Script.{HasEditFault}

@@ -2,14 +2,15 @@
 -- from the node at which nothing is decided. Or else the first line of the claim, the first line of
 -- the head, or the first node, that fails, with its cause. The tail does not matter.
 use Rattle.std.specs.Prelude.{◌≡◌, ◌⊎◌, ℕ, false, List, [], ◌∷◌, codes}
-use Rattle.problem_rules.specs.Problem.{Problem}
-use Rattle.tree_rules.specs.declared.why.Why.{Why}
-use Rattle.tree_rules.specs.Claim.{Claim, ClaimPasses, ClaimFails}
-use Rattle.tree_rules.specs.Accepted.{Tree}
-use Rattle.tree_rules.specs.declared.line_why.LineWhy.{LineWhy}
-use Rattle.tree_rules.specs.Head.{HeadLine}
-use Rattle.tree_rules.specs.Headed.{head_node, HeadPasses, IsAcceptedBy, LineIsFault, NodeIsFaultBy}
-use Rattle.tree_text_rules.specs.Read.{HeadedCertificate}
+use Rattle.report_rules.specs.problem_rules.Problem.{Problem}
+use Rattle.report_rules.specs.tree_rules.declared.why.Why.{Why}
+use Rattle.report_rules.specs.tree_rules.Claim.{Claim, ClaimPasses, ClaimFails}
+use Rattle.report_rules.specs.tree_rules.Accepted.{Tree}
+use Rattle.report_rules.specs.tree_rules.declared.line_why.LineWhy.{LineWhy}
+use Rattle.report_rules.specs.tree_rules.Head.{HeadLine}
+use Rattle.report_rules.specs.tree_rules.Headed.{head_node, HeadPasses, IsAcceptedBy, LineIsFault}
+use Rattle.report_rules.specs.tree_rules.Headed.{NodeIsFaultBy}
+use Rattle.report_rules.specs.tree_text_rules.Read.{HeadedCertificate}
 use Rattle.studio_rules.specs.RefusalWords.{claim_line, head_line, node_line}
 use Rattle.studio_rules.specs.declared.status.Status.{Status}
 use Rattle.studio_rules.specs.declared.status.Status.TheVariants.{Done, Refused}

@@ -4,7 +4,7 @@ use Rattle.std.specs.Prelude.{List, [], ◌∷◌, Option, Some, None, IsSomeAnd
 use Rattle.std.specs.Prelude.{option_map, if◌then◌else◌}
 use Rattle.std.specs.List.{list_all, slice_split, Contains}
 use Rattle.std.specs.Str.{bytes_eq, byte}
-use Rattle.problem_rules.specs.Names.{is_name, has_double}
+use Rattle.report_rules.specs.problem_rules.Names.{is_name, has_double}
 use Rattle.studio_rules.specs.PageLines.{text_of, IsOfLines}
 use Rattle.studio_rules.specs.Overview.{overview, version}
 use Rattle.studio_rules.specs.Pages.{page_text, command_text}

@@ -3,8 +3,8 @@
 -- over that number and the payout period, in 10^-18 of the money unit.
 use Rattle.std.specs.Prelude.{ℕ, ℤ, ◌+◌, List, [], ◌∷◌, ◌++◌, flat_map, codes, decimal}
 use Rattle.std.specs.Fmt.{signed_decimal}
-use Rattle.number_sets.specs.Sets.{has}
-use Rattle.problem_rules.specs.Problem.{Problem, unit_names}
+use Rattle.report_rules.specs.number_sets.Sets.{has}
+use Rattle.report_rules.specs.problem_rules.Problem.{Problem, unit_names}
 use Rattle.plan_rules.specs.Folded.{Run, Written}
 use Rattle.studio_rules.specs.Lines.{spaced_names, names_in}
 

@@ -1,10 +1,10 @@
 -- `edit FILE SCRIPT` and `undo FILE SCRIPT`: the problem after the edits of the script, and the
 -- script that leads from it back.
 use Rattle.std.specs.Prelude.{◌≡◌, ℕ, List}
-use Rattle.problem_rules.specs.Problem.{Problem}
-use Rattle.text_rules.specs.Canonical.{canonical_lines}
-use Rattle.edit_rules.specs.Edit.{Edit}
-use Rattle.edit_rules.specs.Script.{applied, undoing}
+use Rattle.report_rules.specs.problem_rules.Problem.{Problem}
+use Rattle.report_rules.specs.text_rules.Canonical.{canonical_lines}
+use Rattle.report_rules.specs.edit_rules.Edit.{Edit}
+use Rattle.report_rules.specs.edit_rules.Script.{applied, undoing}
 use Rattle.studio_rules.specs.Script.{printed_lines}
 use Rattle.studio_rules.specs.declared.status.Status.{Status}
 use Rattle.studio_rules.specs.declared.status.Status.TheVariants.{Done}

@@ -2,8 +2,8 @@
 -- failed.
 use Rattle.std.specs.Prelude.{◌≡◌, ◌⊎◌, ◌++◌, ℕ, List, [], ◌∷◌, codes}
 use Rattle.std.specs.Io.KnownBytes.{Appends}
-use Rattle.text_rules.specs.Outside.{HasRisen, AppendsFront}
-use Rattle.text_rules.specs.State.{ShelfState, SinkState, OutputsState}
+use Rattle.report_rules.specs.text_rules.Outside.{HasRisen, AppendsFront}
+use Rattle.report_rules.specs.text_rules.State.{ShelfState, SinkState, OutputsState}
 use Rattle.studio_rules.specs.Lines.{line, text_of}
 use Rattle.studio_rules.specs.Seconds.{AreSeconds}
 use Rattle.studio_rules.specs.declared.status.Status.{Status}

@@ -1,8 +1,8 @@
 -- `expand FILE PLAN`: the canonical text of the ordinary problem into which the problem and its
 -- plan are expanded.
 use Rattle.std.specs.Prelude.{◌≡◌, ℕ, List}
-use Rattle.problem_rules.specs.Problem.{Problem}
-use Rattle.text_rules.specs.Canonical.{canonical_lines}
+use Rattle.report_rules.specs.problem_rules.Problem.{Problem}
+use Rattle.report_rules.specs.text_rules.Canonical.{canonical_lines}
 use Rattle.plan_rules.specs.Expanded.{expanded}
 use Rattle.plan_rules.specs.Plan.{Plan}
 use Rattle.studio_rules.specs.declared.status.Status.{Status}

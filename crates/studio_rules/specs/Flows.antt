@@ -2,23 +2,24 @@
 -- for them with multipliers that prove it, or multipliers that refute all flows, or what overflows
 -- on the way. Else the broken axiom, as `axioms` prints it. The lines are those of a tree text.
 use Rattle.std.specs.Prelude.{◌≡◌, ◌⊎◌, ◌++◌, ℕ, ℤ, List, [], ◌∷◌, Option, Some, None, length}
-use Rattle.number_sets.specs.Sets.{has, IsSet}
-use Rattle.problem_rules.specs.Problem.{Problem}
-use Rattle.pns_rules.specs.Shape.{shape_of}
-use Rattle.pns_rules.specs.Verdict.{Judges}
-use Rattle.pns_rules.specs.declared.verdict.Axiom.TheVariants.{S3}
-use Rattle.pns_rules.specs.declared.verdict.Verdict.{Verdict}
-use Rattle.pns_rules.specs.declared.verdict.Verdict.TheVariants.{Meets, Breaks}
-use Rattle.flow_rules.specs.declared.place.Column.{Column}
-use Rattle.flow_rules.specs.declared.place.Place.{Place}
-use Rattle.tree_rules.specs.Tree as trees
-use Rattle.tree_rules.specs.Leaf as leaves
-use Rattle.tree_rules.specs.Claim.{Network, IsSized}
-use Rattle.tree_rules.specs.Claim as claims
-use Rattle.tree_text_rules.specs.Spelling.{network_lines, claim_lines, end_line, place_lines}
-use Rattle.flow_rules.specs.Net.{net_of}
-use Rattle.flow_rules.specs.PastPlace.{IsPastNamed}
-use Rattle.tree_rules.specs.LeastFlows.{decided, IsLeastFlows, HasNoFlows}
+use Rattle.report_rules.specs.number_sets.Sets.{has, IsSet}
+use Rattle.report_rules.specs.problem_rules.Problem.{Problem}
+use Rattle.report_rules.specs.pns_rules.Shape.{shape_of}
+use Rattle.report_rules.specs.pns_rules.Verdict.{Judges}
+use Rattle.report_rules.specs.pns_rules.declared.verdict.Axiom.TheVariants.{S3}
+use Rattle.report_rules.specs.pns_rules.declared.verdict.Verdict.{Verdict}
+use Rattle.report_rules.specs.pns_rules.declared.verdict.Verdict.TheVariants.{Meets, Breaks}
+use Rattle.report_rules.specs.flow_rules.declared.place.Column.{Column}
+use Rattle.report_rules.specs.flow_rules.declared.place.Place.{Place}
+use Rattle.report_rules.specs.tree_rules.Tree as trees
+use Rattle.report_rules.specs.tree_rules.Leaf as leaves
+use Rattle.report_rules.specs.tree_rules.Claim.{Network, IsSized}
+use Rattle.report_rules.specs.tree_rules.Claim as claims
+use Rattle.report_rules.specs.tree_text_rules.Spelling.{network_lines, claim_lines, end_line}
+use Rattle.report_rules.specs.tree_text_rules.Spelling.{place_lines}
+use Rattle.report_rules.specs.flow_rules.Net.{net_of}
+use Rattle.report_rules.specs.flow_rules.PastPlace.{IsPastNamed}
+use Rattle.report_rules.specs.tree_rules.LeastFlows.{decided, IsLeastFlows, HasNoFlows}
 use Rattle.studio_rules.specs.Printed.{spelled}
 use Rattle.studio_rules.specs.Axioms.{units_named, first_stranger, breaks_line, VerdictSays}
 use Rattle.studio_rules.specs.declared.status.Status.{Status}

@@ -1,10 +1,10 @@
 -- `graph FILE` and `graph FILE TREE`: the maximal structure as a graph for Graphviz, and in it the
 -- network of the claim. `graph FILE TREE network`: the network alone.
 use Rattle.std.specs.Prelude.{◌≡◌, ◌⊎◌, ℕ, Bool, List, [], Option, Some, None}
-use Rattle.problem_rules.specs.Problem.{Problem}
-use Rattle.number_sets.specs.Sets.{has}
-use Rattle.pns_rules.specs.Shape.{shape_of}
-use Rattle.tree_rules.specs.Claim.{Network}
+use Rattle.report_rules.specs.problem_rules.Problem.{Problem}
+use Rattle.report_rules.specs.number_sets.Sets.{has}
+use Rattle.report_rules.specs.pns_rules.Shape.{shape_of}
+use Rattle.report_rules.specs.tree_rules.Claim.{Network}
 use Rattle.studio_rules.specs.Max.{IsMaximal, HasNoStructure}
 use Rattle.report_rules.specs.Graph.{graph_lines, empty_lines}
 use Rattle.studio_rules.specs.declared.scene.Scene.{Scene}

@@ -1,12 +1,12 @@
 -- TREE is read and judged after FILE by the grammar of trees with a head: a claim, a head that may
 -- have no lines, a tree and a tail.
 use Rattle.std.specs.Prelude.{◌≡◌, ◌≤◌, ◌⊎◌, ℕ, List, [], ◌∷◌, Ok, Err, length}
-use Rattle.text_rules.specs.Outside.{Told}
-use Rattle.problem_rules.specs.Problem.{Problem}
-use Rattle.tree_rules.specs.Claim.{Claim}
-use Rattle.tree_rules.specs.Accepted.{Tree}
-use Rattle.tree_text_rules.specs.declared.TreeKind.{TreeKind}
-use Rattle.tree_text_rules.specs.Read.{HeadedCertificate, read_headed_text}
+use Rattle.report_rules.specs.text_rules.Outside.{Told}
+use Rattle.report_rules.specs.problem_rules.Problem.{Problem}
+use Rattle.report_rules.specs.tree_rules.Claim.{Claim}
+use Rattle.report_rules.specs.tree_rules.Accepted.{Tree}
+use Rattle.report_rules.specs.tree_text_rules.declared.TreeKind.{TreeKind}
+use Rattle.report_rules.specs.tree_text_rules.Read.{HeadedCertificate, read_headed_text}
 use Rattle.studio_rules.specs.Reading.{AreHeld, IsLong, OnSecond}
 use Rattle.studio_rules.specs.TreeFile.{tree_limit, tree_fault_line}
 use Rattle.studio_rules.specs.declared.status.Status.{Status}

@@ -1,12 +1,12 @@
 -- `json FILE TREE`: what the tree proves of its claim, and the facts of the network of the claim,
 -- as one JSON object for programs. With a head it has neither a lower bound nor a gap.
 use Rattle.std.specs.Prelude.{◌≡◌, ℕ, List, [], ◌∷◌, codes, decimal}
-use Rattle.problem_rules.specs.Problem.{Problem}
-use Rattle.tree_rules.specs.declared.why.Why.{Why}
-use Rattle.tree_rules.specs.Claim.{Claim, network, infeasible, unknown, ClaimFails}
-use Rattle.tree_rules.specs.Accepted.{Tree}
-use Rattle.tree_rules.specs.Head.{HeadLine}
-use Rattle.tree_text_rules.specs.Read.{HeadedCertificate}
+use Rattle.report_rules.specs.problem_rules.Problem.{Problem}
+use Rattle.report_rules.specs.tree_rules.declared.why.Why.{Why}
+use Rattle.report_rules.specs.tree_rules.Claim.{Claim, network, infeasible, unknown, ClaimFails}
+use Rattle.report_rules.specs.tree_rules.Accepted.{Tree}
+use Rattle.report_rules.specs.tree_rules.Head.{HeadLine}
+use Rattle.report_rules.specs.tree_text_rules.Read.{HeadedCertificate}
 use Rattle.report_rules.specs.declared.verdict.Verdict.{Verdict}
 use Rattle.report_rules.specs.declared.verdict.Verdict.TheVariants.{Proved, Unfinished, Fails}
 use Rattle.report_rules.specs.Verdict.{IsVerdict}

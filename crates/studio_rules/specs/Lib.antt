@@ -65,3 +65,7 @@ pub mod TextFile
 pub mod TopicPages
 pub mod TreeFile
 pub mod Trial
+pub use Rattle.report_rules.specs.problem_rules as problem_rules
+pub use Rattle.report_rules.specs.text_rules as text_rules
+pub use Rattle.report_rules.specs.rank_rules as rank_rules
+pub use Rattle.report_rules.specs as report_rules

@@ -1,8 +1,8 @@
 -- `lint FILE`: what looks odd in the plant, two lines for each warning, or the line `clean`.
 use Rattle.std.specs.Prelude.{◌≡◌, ℕ, Bool, false, List}
-use Rattle.problem_rules.specs.Problem.{Problem}
-use Rattle.pns_rules.specs.Shape.{shape_of}
-use Rattle.pns_rules.specs.Structure.{IsUnion}
+use Rattle.report_rules.specs.problem_rules.Problem.{Problem}
+use Rattle.report_rules.specs.pns_rules.Shape.{shape_of}
+use Rattle.report_rules.specs.pns_rules.Structure.{IsUnion}
 use Rattle.report_rules.specs.Lint.{lint_lines}
 use Rattle.studio_rules.specs.declared.status.Status.{Status}
 use Rattle.studio_rules.specs.declared.status.Status.TheVariants.{Done}

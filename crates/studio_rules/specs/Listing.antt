@@ -3,12 +3,12 @@
 -- 1992).
 use Rattle.std.specs.Prelude.{◌≡◌, ◌++◌, ℕ, List, [], ◌∷◌, Option, Some, None, codes, length, map}
 use Rattle.std.specs.Prelude.{take, nat_lt, if◌then◌else◌}
-use Rattle.number_sets.specs.Sets.{has, IsRising}
-use Rattle.problem_rules.specs.Problem.{Problem, unit_names}
-use Rattle.pns_rules.specs.Shape.{Shape, shape_of}
-use Rattle.pns_rules.specs.Structure.{IsStructure}
-use Rattle.pns_rules.specs.Listing.{IsListing}
-use Rattle.pns_rules.specs.Tokens.{token_of}
+use Rattle.report_rules.specs.number_sets.Sets.{has, IsRising}
+use Rattle.report_rules.specs.problem_rules.Problem.{Problem, unit_names}
+use Rattle.report_rules.specs.pns_rules.Shape.{Shape, shape_of}
+use Rattle.report_rules.specs.pns_rules.Structure.{IsStructure}
+use Rattle.report_rules.specs.pns_rules.Listing.{IsListing}
+use Rattle.report_rules.specs.pns_rules.Tokens.{token_of}
 use Rattle.studio_rules.specs.Lines.{spaced_names, names_in}
 use Rattle.studio_rules.specs.declared.status.Status.{Status}
 use Rattle.studio_rules.specs.declared.status.Status.TheVariants.{Done, BadToken}

@@ -1,8 +1,8 @@
 -- `make NUMBER UNITS`: the canonical text of the problem that the number and the count of units
 -- stand for.
 use Rattle.std.specs.Prelude.{◌≡◌, ℕ, List}
-use Rattle.text_rules.specs.Canonical.{canonical_lines}
-use Rattle.problem_rules.specs.Generated.{generated}
+use Rattle.report_rules.specs.text_rules.Canonical.{canonical_lines}
+use Rattle.report_rules.specs.problem_rules.Generated.{generated}
 use Rattle.studio_rules.specs.declared.status.Status.{Status}
 use Rattle.studio_rules.specs.declared.status.Status.TheVariants.{Done}
 

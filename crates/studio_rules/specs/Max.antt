@@ -1,9 +1,9 @@
 -- `max FILE`: the maximal structure, the union of all solution structures, clash-free or not
 -- (Friedler, Tarjan, Huang and Fan 1993).
 use Rattle.std.specs.Prelude.{◌≡◌, ◌⊎◌, ◌++◌, ℕ, Bool, false, List, [], ◌∷◌, codes}
-use Rattle.problem_rules.specs.Problem.{Problem, material_names, unit_names}
-use Rattle.pns_rules.specs.Shape.{Shape, shape_of}
-use Rattle.pns_rules.specs.Structure.{mats, IsStructure, IsUnion}
+use Rattle.report_rules.specs.problem_rules.Problem.{Problem, material_names, unit_names}
+use Rattle.report_rules.specs.pns_rules.Shape.{Shape, shape_of}
+use Rattle.report_rules.specs.pns_rules.Structure.{mats, IsStructure, IsUnion}
 use Rattle.studio_rules.specs.Lines.{spaced_names, names_in}
 use Rattle.studio_rules.specs.declared.status.Status.{Status}
 use Rattle.studio_rules.specs.declared.status.Status.TheVariants.{Done}

@@ -3,19 +3,19 @@
 -- leaves. Or else the first part that is not put back is reported, with the cause.
 use Rattle.std.specs.Prelude.{◌≡◌, ◌⊎◌, ◌++◌, ℕ, Bool, true, false, List, [], ◌∷◌, get_or, codes}
 use Rattle.std.specs.Prelude.{decimal}
-use Rattle.text_rules.specs.Outside.{Told}
-use Rattle.problem_rules.specs.Problem.{Problem}
-use Rattle.tree_rules.specs.declared.why.Why.{Why}
-use Rattle.tree_rules.specs.Claim as claims
-use Rattle.tree_rules.specs.Accepted as trees
-use Rattle.tree_rules.specs.Tail.{whole}
-use Rattle.tree_rules.specs.declared.refusal.Refusal.{Refusal}
-use Rattle.tree_rules.specs.declared.refusal.Refusal.TheVariants.{Claim, Node, Memory}
-use Rattle.tree_text_rules.specs.Spelling.{tree_text_lines}
-use Rattle.tree_text_rules.specs.Part as parts
-use Rattle.tree_text_rules.specs.Several.{AreMerged, StopsAt}
-use Rattle.tree_text_rules.specs.declared.merge_fault.MergeFault.{MergeFault}
-use Rattle.tree_text_rules.specs.declared.merge_fault.MergeFault.TheVariants as faults
+use Rattle.report_rules.specs.text_rules.Outside.{Told}
+use Rattle.report_rules.specs.problem_rules.Problem.{Problem}
+use Rattle.report_rules.specs.tree_rules.declared.why.Why.{Why}
+use Rattle.report_rules.specs.tree_rules.Claim as claims
+use Rattle.report_rules.specs.tree_rules.Accepted as trees
+use Rattle.report_rules.specs.tree_rules.Tail.{whole}
+use Rattle.report_rules.specs.tree_rules.declared.refusal.Refusal.{Refusal}
+use Rattle.report_rules.specs.tree_rules.declared.refusal.Refusal.TheVariants.{Claim, Node, Memory}
+use Rattle.report_rules.specs.tree_text_rules.Spelling.{tree_text_lines}
+use Rattle.report_rules.specs.tree_text_rules.Part as parts
+use Rattle.report_rules.specs.tree_text_rules.Several.{AreMerged, StopsAt}
+use Rattle.report_rules.specs.tree_text_rules.declared.merge_fault.MergeFault.{MergeFault}
+use Rattle.report_rules.specs.tree_text_rules.declared.merge_fault.MergeFault.TheVariants as faults
 use Rattle.studio_rules.specs.RefusalWords.{why_word, claim_line, node_line}
 use Rattle.studio_rules.specs.PartFile.{FirstFault, GiveParts, part_words, are_several}
 use Rattle.studio_rules.specs.Printed.{spelled}

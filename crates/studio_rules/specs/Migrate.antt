@@ -2,8 +2,8 @@
 -- over so many years. Or the refusal of a problem that has a payout period already, or of a cost
 -- that would leave its range.
 use Rattle.std.specs.Prelude.{◌≡◌, ◌⊎◌, ◌++◌, ℕ, true, false, List, [], ◌∷◌, Some, None, codes, pos}
-use Rattle.problem_rules.specs.Problem.{Problem, unit_at}
-use Rattle.edit_rules.specs.Migration.{has_payout, out_of_range_at, migration}
+use Rattle.report_rules.specs.problem_rules.Problem.{Problem, unit_at}
+use Rattle.report_rules.specs.edit_rules.Migration.{has_payout, out_of_range_at, migration}
 use Rattle.studio_rules.specs.Script.{printed_lines}
 use Rattle.studio_rules.specs.declared.status.Status.{Status}
 use Rattle.studio_rules.specs.declared.status.Status.TheVariants.{Done, NotMigrated}

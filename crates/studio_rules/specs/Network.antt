@@ -1,12 +1,13 @@
 -- The claim of a tree file is judged by its lines, which all commands on the network of a claim
 -- share. Neither nodes nor tail are judged.
 use Rattle.std.specs.Prelude.{◌≡◌, ◌⊎◌, ℕ, false, List, [], ◌∷◌}
-use Rattle.problem_rules.specs.Problem.{Problem}
-use Rattle.tree_rules.specs.declared.why.Why.{Why}
-use Rattle.tree_rules.specs.declared.why.Why.TheVariants.{Unknown}
-use Rattle.tree_rules.specs.Claim.{Network, Claim, network, infeasible, unknown, IsFeasible}
-use Rattle.tree_rules.specs.Claim.{ClaimFails}
-use Rattle.tree_rules.specs.Accepted.{Tree}
+use Rattle.report_rules.specs.problem_rules.Problem.{Problem}
+use Rattle.report_rules.specs.tree_rules.declared.why.Why.{Why}
+use Rattle.report_rules.specs.tree_rules.declared.why.Why.TheVariants.{Unknown}
+use Rattle.report_rules.specs.tree_rules.Claim.{Network, Claim, network, infeasible, unknown}
+use Rattle.report_rules.specs.tree_rules.Claim.{IsFeasible}
+use Rattle.report_rules.specs.tree_rules.Claim.{ClaimFails}
+use Rattle.report_rules.specs.tree_rules.Accepted.{Tree}
 use Rattle.studio_rules.specs.RefusalWords.{claim_line}
 use Rattle.studio_rules.specs.declared.status.Status.{Status}
 use Rattle.studio_rules.specs.declared.status.Status.TheVariants.{BadClaim}

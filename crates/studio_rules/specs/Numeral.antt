@@ -4,7 +4,7 @@ use Rattle.std.specs.Prelude.{length, get_or, take, nat_le, not, if◌then◌els
 use Rattle.std.specs.List.{list_all}
 use Rattle.std.specs.Str.{byte}
 use Rattle.std.specs.Char.{is_ascii_digit}
-use Rattle.text_rules.specs.Amount.{number_of}
+use Rattle.report_rules.specs.text_rules.Amount.{number_of}
 
 abbrev pub has_leading_zero : List ℕ → Bool
 has_leading_zero [] = false

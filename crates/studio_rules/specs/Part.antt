@@ -2,23 +2,24 @@
 -- of a part. `part FILE INSIDE OUTSIDE BUDGET TREE`: the same of a search that begins with the
 -- network of TREE as its best, if TREE claims one.
 use Rattle.std.specs.Prelude.{◌≡◌, ◌⊎◌, ℕ, List, Option, Some, None, Ok}
-use Rattle.number_sets.specs.Sets.{has}
-use Rattle.problem_rules.specs.Problem.{Problem}
-use Rattle.text_rules.specs.Outside.{Told}
-use Rattle.pns_rules.specs.Nodes.{Node}
-use Rattle.tree_rules.specs.Claim.{Network, Claim, network, infeasible, unknown, claimed_cost}
-use Rattle.tree_rules.specs.Claim.{IsFeasible}
-use Rattle.tree_rules.specs.Costs.{HasFallen}
-use Rattle.tree_rules.specs.Leaf.{IsUntried}
-use Rattle.tree_rules.specs.Accepted.{Tree}
-use Rattle.tree_rules.specs.Stops.{IsSpent, IsPast}
-use Rattle.tree_rules.specs.Tail.{Tail, whole, spent, past}
-use Rattle.tree_rules.specs.Past.{IsPastAt}
-use Rattle.tree_rules.specs.Proved.{IsProved, IsStopped, IsBelowLimit}
-use Rattle.tree_text_rules.specs.Read.{Certificate}
-use Rattle.tree_text_rules.specs.Part.{Part}
-use Rattle.tree_text_rules.specs.PartRead.{PartReads}
-use Rattle.tree_text_rules.specs.PartSpelling.{part_text_lines}
+use Rattle.report_rules.specs.number_sets.Sets.{has}
+use Rattle.report_rules.specs.problem_rules.Problem.{Problem}
+use Rattle.report_rules.specs.text_rules.Outside.{Told}
+use Rattle.report_rules.specs.pns_rules.Nodes.{Node}
+use Rattle.report_rules.specs.tree_rules.Claim.{Network, Claim, network, infeasible, unknown}
+use Rattle.report_rules.specs.tree_rules.Claim.{claimed_cost}
+use Rattle.report_rules.specs.tree_rules.Claim.{IsFeasible}
+use Rattle.report_rules.specs.tree_rules.Costs.{HasFallen}
+use Rattle.report_rules.specs.tree_rules.Leaf.{IsUntried}
+use Rattle.report_rules.specs.tree_rules.Accepted.{Tree}
+use Rattle.report_rules.specs.tree_rules.Stops.{IsSpent, IsPast}
+use Rattle.report_rules.specs.tree_rules.Tail.{Tail, whole, spent, past}
+use Rattle.report_rules.specs.tree_rules.Past.{IsPastAt}
+use Rattle.report_rules.specs.tree_rules.Proved.{IsProved, IsStopped, IsBelowLimit}
+use Rattle.report_rules.specs.tree_text_rules.Read.{Certificate}
+use Rattle.report_rules.specs.tree_text_rules.Part.{Part}
+use Rattle.report_rules.specs.tree_text_rules.PartRead.{PartReads}
+use Rattle.report_rules.specs.tree_text_rules.PartSpelling.{part_text_lines}
 use Rattle.studio_rules.specs.Lines.{text_of}
 use Rattle.studio_rules.specs.Network.{ClaimRefusal}
 use Rattle.studio_rules.specs.Printed.{spelled}

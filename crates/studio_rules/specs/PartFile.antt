@@ -2,11 +2,11 @@
 -- are several, a line that speaks of one names its file.
 use Rattle.std.specs.Prelude.{◌≡◌, ◌≤◌, ◌<◌, ◌++◌, ℕ, Bool, true, false, List, [], ◌∷◌, Ok, Err}
 use Rattle.std.specs.Prelude.{length, take, get_or, nat_lt, codes, decimal}
-use Rattle.text_rules.specs.Outside.{Told}
-use Rattle.problem_rules.specs.Problem.{Problem}
-use Rattle.tree_text_rules.specs.declared.TreeKind.{TreeKind}
-use Rattle.tree_text_rules.specs.Part.{Part}
-use Rattle.tree_text_rules.specs.PartRead.{PartReads}
+use Rattle.report_rules.specs.text_rules.Outside.{Told}
+use Rattle.report_rules.specs.problem_rules.Problem.{Problem}
+use Rattle.report_rules.specs.tree_text_rules.declared.TreeKind.{TreeKind}
+use Rattle.report_rules.specs.tree_text_rules.Part.{Part}
+use Rattle.report_rules.specs.tree_text_rules.PartRead.{PartReads}
 use Rattle.studio_rules.specs.Reading.{AreHeld, IsLong}
 use Rattle.studio_rules.specs.TreeFile.{tree_limit, tree_kind_word}
 use Rattle.studio_rules.specs.declared.status.Status.{Status}

@@ -2,11 +2,11 @@
 -- none. If the search stops before its end, the lines and the status are those of `solve` on the
 -- expanded problem.
 use Rattle.std.specs.Prelude.{◌≡◌, ◌⊎◌, ℕ, List, [], ◌∷◌, codes}
-use Rattle.problem_rules.specs.Problem.{Problem}
+use Rattle.report_rules.specs.problem_rules.Problem.{Problem}
 use Rattle.plan_rules.specs.Expanded.{expanded}
 use Rattle.plan_rules.specs.Plan.{Plan}
-use Rattle.tree_rules.specs.Claim.{Network, network, infeasible}
-use Rattle.tree_rules.specs.Accepted.{Tree}
+use Rattle.report_rules.specs.tree_rules.Claim.{Network, network, infeasible}
+use Rattle.report_rules.specs.tree_rules.Accepted.{Tree}
 use Rattle.plan_rules.specs.Folded.{folded}
 use Rattle.plan_rules.specs.Least.{IsLeastDesign, HasNoDesign}
 use Rattle.studio_rules.specs.Solve.{Solves, HasProof, PlainWork}

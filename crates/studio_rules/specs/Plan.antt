@@ -1,8 +1,8 @@
 -- PLAN is read and judged after FILE: first its form, then its meaning on the problem.
 use Rattle.std.specs.Prelude.{◌≡◌, ◌≤◌, ◌⊎◌, ◌++◌, ℕ, List, [], ◌∷◌, Ok, Err, length, codes}
 use Rattle.std.specs.Prelude.{decimal}
-use Rattle.text_rules.specs.Outside.{Told}
-use Rattle.problem_rules.specs.Problem.{Problem}
+use Rattle.report_rules.specs.text_rules.Outside.{Told}
+use Rattle.report_rules.specs.problem_rules.Problem.{Problem}
 use Rattle.plan_rules.specs.Meaning.{read_plan}
 use Rattle.plan_rules.specs.Plan.{Plan}
 use Rattle.plan_rules.specs.declared.PlanKind.{PlanKind}

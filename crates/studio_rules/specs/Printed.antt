@@ -1,7 +1,7 @@
 -- Lines of a tree text, as lines of bytes.
 use Rattle.std.specs.Prelude.{◌≡◌, ℕ, List, map}
-use Rattle.text_rules.specs.Canonical.{joined}
-use Rattle.tree_text_rules.specs.Line.{Token}
+use Rattle.report_rules.specs.text_rules.Canonical.{joined}
+use Rattle.report_rules.specs.tree_text_rules.Line.{Token}
 use Rattle.studio_rules.specs.declared.status.Status.{Status}
 
 -- the bytes of lines of tokens

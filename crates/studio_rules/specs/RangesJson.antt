@@ -1,9 +1,9 @@
 -- `json FILE TEXT` on a table of ranges, as `stable FILE TREE` prints it: its rows as one JSON
 -- object for programs. Nothing is judged. Any other text is a tree or a ranking.
 use Rattle.std.specs.Prelude.{◌≡◌, ◌≤◌, ℕ, List, [], ◌∷◌, Ok, Err, length}
-use Rattle.text_rules.specs.Outside.{Told}
-use Rattle.problem_rules.specs.Problem.{Problem}
-use Rattle.tree_text_rules.specs.declared.TreeKind.{TreeKind}
+use Rattle.report_rules.specs.text_rules.Outside.{Told}
+use Rattle.report_rules.specs.problem_rules.Problem.{Problem}
+use Rattle.report_rules.specs.tree_text_rules.declared.TreeKind.{TreeKind}
 use Rattle.report_rules.specs.Object.{table_lines}
 use Rattle.report_rules.specs.RangeTable.{is_table, read_table}
 use Rattle.report_rules.specs.declared.row.Row.{Row}

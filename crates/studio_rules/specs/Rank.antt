@@ -2,22 +2,22 @@
 -- If the search stopped before its end: the networks that were found and the tree as far as it
 -- came. The lines are those of a rank text.
 use Rattle.std.specs.Prelude.{◌≡◌, ℕ, Bool, true, false, List, Option, None, Ok}
-use Rattle.problem_rules.specs.Problem.{Problem}
-use Rattle.tree_rules.specs.Claim.{Network, CostOver}
-use Rattle.tree_rules.specs.Lean.{IsLean}
-use Rattle.tree_rules.specs.Accepted.{first_node}
-use Rattle.tree_rules.specs.Stops.{IsSpent, IsPast}
-use Rattle.rank_rules.specs.Networks.{to_undercut}
-use Rattle.rank_rules.specs.Ranked.{Proves}
-use Rattle.tree_rules.specs.Tail.{Tail, whole, spent, past}
-use Rattle.rank_rules.specs.Marked.{marked}
-use Rattle.rank_rules.specs.Text.{Text, ranking_of}
-use Rattle.rank_rules.specs.Read.{read_text}
-use Rattle.rank_rules.specs.Spelling.{rank_text_lines}
-use Rattle.rank_rules.specs.Leaf.{IsOpenLeaf}
+use Rattle.report_rules.specs.problem_rules.Problem.{Problem}
+use Rattle.report_rules.specs.tree_rules.Claim.{Network, CostOver}
+use Rattle.report_rules.specs.tree_rules.Lean.{IsLean}
+use Rattle.report_rules.specs.tree_rules.Accepted.{first_node}
+use Rattle.report_rules.specs.tree_rules.Stops.{IsSpent, IsPast}
+use Rattle.report_rules.specs.rank_rules.Networks.{to_undercut}
+use Rattle.report_rules.specs.rank_rules.Ranked.{Proves}
+use Rattle.report_rules.specs.tree_rules.Tail.{Tail, whole, spent, past}
+use Rattle.report_rules.specs.rank_rules.Marked.{marked}
+use Rattle.report_rules.specs.rank_rules.Text.{Text, ranking_of}
+use Rattle.report_rules.specs.rank_rules.Read.{read_text}
+use Rattle.report_rules.specs.rank_rules.Spelling.{rank_text_lines}
+use Rattle.report_rules.specs.rank_rules.Leaf.{IsOpenLeaf}
 use Rattle.studio_rules.specs.Rankcheck.{AreBest}
-use Rattle.tree_rules.specs.Past.{IsPastAt}
-use Rattle.tree_rules.specs.Proved.{IsBelowLimit}
+use Rattle.report_rules.specs.tree_rules.Past.{IsPastAt}
+use Rattle.report_rules.specs.tree_rules.Proved.{IsBelowLimit}
 use Rattle.studio_rules.specs.Solve.{status_of}
 use Rattle.studio_rules.specs.Lines.{text_of}
 use Rattle.studio_rules.specs.Printed.{spelled}

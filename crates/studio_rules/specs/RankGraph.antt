@@ -2,12 +2,12 @@
 -- networks in it, and all of them as a table. They are judged as claims, and by their order. The
 -- nodes of the tree are not judged.
 use Rattle.std.specs.Prelude.{◌≡◌, ◌⊎◌, ℕ, List, [], ◌∷◌}
-use Rattle.problem_rules.specs.Problem.{Problem}
-use Rattle.tree_rules.specs.declared.why.Why.TheVariants.{Unknown}
-use Rattle.tree_rules.specs.Claim.{Network}
-use Rattle.rank_rules.specs.Networks.{ArePassing}
-use Rattle.rank_rules.specs.Ranked.{Ranking}
-use Rattle.rank_rules.specs.Text.{Text, ranking_of}
+use Rattle.report_rules.specs.problem_rules.Problem.{Problem}
+use Rattle.report_rules.specs.tree_rules.declared.why.Why.TheVariants.{Unknown}
+use Rattle.report_rules.specs.tree_rules.Claim.{Network}
+use Rattle.report_rules.specs.rank_rules.Networks.{ArePassing}
+use Rattle.report_rules.specs.rank_rules.Ranked.{Ranking}
+use Rattle.report_rules.specs.rank_rules.Text.{Text, ranking_of}
 use Rattle.studio_rules.specs.RefusalWords.{claim_line}
 use Rattle.studio_rules.specs.Graph.{AreSceneLines}
 use Rattle.studio_rules.specs.RankReport.{NetworkRefusal}

@@ -1,9 +1,9 @@
 -- `json FILE TEXT` on a ranking, or on a list of alternatives, which is distinct: what its tree
 -- proves of the networks, these, and the facts of the first, as one JSON object for programs.
 use Rattle.std.specs.Prelude.{◌≡◌, ℕ, Bool, true, false, List, [], ◌∷◌, codes, decimal}
-use Rattle.problem_rules.specs.Problem.{Problem}
-use Rattle.rank_rules.specs.Ranked.{Ranking}
-use Rattle.rank_rules.specs.Text.{Text, ranking_of}
+use Rattle.report_rules.specs.problem_rules.Problem.{Problem}
+use Rattle.report_rules.specs.rank_rules.Ranked.{Ranking}
+use Rattle.report_rules.specs.rank_rules.Text.{Text, ranking_of}
 use Rattle.report_rules.specs.declared.rank_verdict.RankVerdict.{RankVerdict}
 use Rattle.report_rules.specs.declared.rank_verdict.RankVerdict.TheVariants.{Proved, Unfinished}
 use Rattle.report_rules.specs.declared.rank_verdict.RankVerdict.TheVariants.{Fails}

@@ -3,12 +3,12 @@
 -- a row for each network, and the report of the first.
 use Rattle.std.specs.Prelude.{◌≡◌, ◌++◌, ◌==◌, ℕ, Bool, true, false, List, [], ◌∷◌}
 use Rattle.std.specs.Prelude.{length, codes, decimal, Option, if◌then◌else◌}
-use Rattle.problem_rules.specs.Problem.{Problem}
-use Rattle.text_rules.specs.Outside.{Told}
-use Rattle.tree_rules.specs.Claim.{Network}
-use Rattle.rank_rules.specs.declared.why.RankWhy.{RankWhy}
-use Rattle.rank_rules.specs.Ranked.{Ranking, NetworkIsFault}
-use Rattle.rank_rules.specs.Text.{Text, ranking_of}
+use Rattle.report_rules.specs.problem_rules.Problem.{Problem}
+use Rattle.report_rules.specs.text_rules.Outside.{Told}
+use Rattle.report_rules.specs.tree_rules.Claim.{Network}
+use Rattle.report_rules.specs.rank_rules.declared.why.RankWhy.{RankWhy}
+use Rattle.report_rules.specs.rank_rules.Ranked.{Ranking, NetworkIsFault}
+use Rattle.report_rules.specs.rank_rules.Text.{Text, ranking_of}
 use Rattle.report_rules.specs.declared.lower_bound.LowerBound.{LowerBound}
 use Rattle.report_rules.specs.declared.rank_verdict.RankVerdict.{RankVerdict}
 use Rattle.report_rules.specs.declared.rank_verdict.RankVerdict.TheVariants.{Proved, Unfinished}

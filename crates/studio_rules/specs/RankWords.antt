@@ -1,9 +1,9 @@
 -- The words that say why a network or a node of a ranked tree is refused.
 use Rattle.std.specs.Prelude.{ℕ, List, ◌∷◌, ◌++◌, codes, decimal}
 use Rattle.studio_rules.specs.RefusalWords.{why_word}
-use Rattle.rank_rules.specs.declared.why.RankWhy.{RankWhy}
-use Rattle.rank_rules.specs.declared.why.RankWhy.TheVariants.{Plain, Order, Contains}
-use Rattle.rank_rules.specs.declared.why.RankWhy.TheVariants.{Named, Over}
+use Rattle.report_rules.specs.rank_rules.declared.why.RankWhy.{RankWhy}
+use Rattle.report_rules.specs.rank_rules.declared.why.RankWhy.TheVariants.{Plain, Order, Contains}
+use Rattle.report_rules.specs.rank_rules.declared.why.RankWhy.TheVariants.{Named, Over}
 
 -- the word for a cause
 abbrev pub rank_why_word : RankWhy → List ℕ

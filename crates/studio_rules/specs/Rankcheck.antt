@@ -3,23 +3,24 @@
 use Rattle.std.specs.Prelude.{◌≡◌, ◌⊎◌, ◌≤◌, ◌<◌, ℕ, ℤ, Bool, true, false, List, [], ◌∷◌, Some, Ok}
 use Rattle.std.specs.Prelude.{Err}
 use Rattle.std.specs.Prelude.{length, codes}
-use Rattle.text_rules.specs.Outside.{Told}
-use Rattle.number_sets.specs.Sets.{has}
-use Rattle.problem_rules.specs.Problem.{Problem}
-use Rattle.problem_rules.specs.Validity.{IsValid}
-use Rattle.pns_rules.specs.Shape.{shape_of}
-use Rattle.pns_rules.specs.Structure.{IsStructure, IsAllowed}
-use Rattle.flow_rules.specs.Net.{net_of}
-use Rattle.flow_rules.specs.Flows.{IsFlows}
-use Rattle.tree_rules.specs.Claim.{Network}
-use Rattle.tree_rules.specs.Costs.{CostsEnough}
-use Rattle.rank_rules.specs.declared.why.RankWhy.{RankWhy}
-use Rattle.rank_rules.specs.Networks.{cost_of, numbered, last_cost, IsListed, ArePassing}
-use Rattle.rank_rules.specs.Alternatives.{IsRight}
-use Rattle.rank_rules.specs.Ranked.{Ranking, IsRanked, NetworkIsFault, NodeIsFault}
-use Rattle.rank_rules.specs.Text.{Text, ranking_of}
-use Rattle.tree_text_rules.specs.declared.TreeKind.{TreeKind}
-use Rattle.rank_rules.specs.Read.{read_text}
+use Rattle.report_rules.specs.text_rules.Outside.{Told}
+use Rattle.report_rules.specs.number_sets.Sets.{has}
+use Rattle.report_rules.specs.problem_rules.Problem.{Problem}
+use Rattle.report_rules.specs.problem_rules.Validity.{IsValid}
+use Rattle.report_rules.specs.pns_rules.Shape.{shape_of}
+use Rattle.report_rules.specs.pns_rules.Structure.{IsStructure, IsAllowed}
+use Rattle.report_rules.specs.flow_rules.Net.{net_of}
+use Rattle.report_rules.specs.flow_rules.Flows.{IsFlows}
+use Rattle.report_rules.specs.tree_rules.Claim.{Network}
+use Rattle.report_rules.specs.tree_rules.Costs.{CostsEnough}
+use Rattle.report_rules.specs.rank_rules.declared.why.RankWhy.{RankWhy}
+use Rattle.report_rules.specs.rank_rules.Networks.{cost_of, numbered, last_cost, IsListed}
+use Rattle.report_rules.specs.rank_rules.Networks.{ArePassing}
+use Rattle.report_rules.specs.rank_rules.Alternatives.{IsRight}
+use Rattle.report_rules.specs.rank_rules.Ranked.{Ranking, IsRanked, NetworkIsFault, NodeIsFault}
+use Rattle.report_rules.specs.rank_rules.Text.{Text, ranking_of}
+use Rattle.report_rules.specs.tree_text_rules.declared.TreeKind.{TreeKind}
+use Rattle.report_rules.specs.rank_rules.Read.{read_text}
 use Rattle.studio_rules.specs.RankWords.{network_line, rank_node_line}
 use Rattle.studio_rules.specs.Reading.{AreHeld, GivesProblem, IsLong, OnFile, OnSecond}
 use Rattle.studio_rules.specs.TreeFile.{tree_limit, tree_fault_line}

@@ -1,23 +1,32 @@
 -- FILE is read and judged, which all commands on a problem share.
 use Rattle.std.specs.Prelude.{◌≡◌, ◌<◌, ◌≤◌, ◌⊎◌, ◌++◌, ℕ, List, [], ◌∷◌, Result, Ok, Err, length}
 use Rattle.std.specs.Prelude.{codes, decimal}
-use Rattle.text_rules.specs.Outside.{Told, IfTold}
-use Rattle.problem_rules.specs.Problem.{Problem}
-use Rattle.problem_rules.specs.Validity.{IsValid}
-use Rattle.text_rules.specs.declared.TextKind.{TextKind}
-use Rattle.text_rules.specs.declared.TextKind.TheVariants.{FileType, UnknownSection, DoubleSection}
-use Rattle.text_rules.specs.declared.TextKind.TheVariants.{BadLine, BadName, UnknownKey, DoubleKey}
-use Rattle.text_rules.specs.declared.TextKind.TheVariants.{BadNumber, TooFine, TooLarge, Negative}
-use Rattle.text_rules.specs.declared.TextKind.TheVariants.{UnknownKind, ZeroRate, DoubleTerm}
-use Rattle.text_rules.specs.declared.TextKind.TheVariants.{BothSides}
-use Rattle.text_rules.specs.declared.TextKind.TheVariants.{EmptySide, DoubleMaterial, DoubleUnit}
-use Rattle.text_rules.specs.declared.TextKind.TheVariants.{DoubleRates, TooMany, LowAboveHigh}
-use Rattle.text_rules.specs.declared.TextKind.TheVariants.{UnknownMaterial, NoRates, NoProduct}
-use Rattle.text_rules.specs.declared.TextKind.TheVariants.{DoubleExclusion, DoubleMember}
-use Rattle.text_rules.specs.declared.TextKind.TheVariants.{FewMembers, UnknownUnit, BadPayout}
-use Rattle.text_rules.specs.Fault.{Fault}
-use Rattle.text_rules.specs.Value.{read_text}
-use Rattle.text_rules.specs.State.{ShelfState}
+use Rattle.report_rules.specs.text_rules.Outside.{Told, IfTold}
+use Rattle.report_rules.specs.problem_rules.Problem.{Problem}
+use Rattle.report_rules.specs.problem_rules.Validity.{IsValid}
+use Rattle.report_rules.specs.text_rules.declared.TextKind.{TextKind}
+use Rattle.report_rules.specs.text_rules.declared.TextKind.TheVariants.{FileType, UnknownSection}
+use Rattle.report_rules.specs.text_rules.declared.TextKind.TheVariants.{DoubleSection}
+use Rattle.report_rules.specs.text_rules.declared.TextKind.TheVariants.{BadLine, BadName}
+use Rattle.report_rules.specs.text_rules.declared.TextKind.TheVariants.{UnknownKey, DoubleKey}
+use Rattle.report_rules.specs.text_rules.declared.TextKind.TheVariants.{BadNumber, TooFine}
+use Rattle.report_rules.specs.text_rules.declared.TextKind.TheVariants.{TooLarge, Negative}
+use Rattle.report_rules.specs.text_rules.declared.TextKind.TheVariants.{UnknownKind, ZeroRate}
+use Rattle.report_rules.specs.text_rules.declared.TextKind.TheVariants.{DoubleTerm}
+use Rattle.report_rules.specs.text_rules.declared.TextKind.TheVariants.{BothSides}
+use Rattle.report_rules.specs.text_rules.declared.TextKind.TheVariants.{EmptySide, DoubleMaterial}
+use Rattle.report_rules.specs.text_rules.declared.TextKind.TheVariants.{DoubleUnit}
+use Rattle.report_rules.specs.text_rules.declared.TextKind.TheVariants.{DoubleRates, TooMany}
+use Rattle.report_rules.specs.text_rules.declared.TextKind.TheVariants.{LowAboveHigh}
+use Rattle.report_rules.specs.text_rules.declared.TextKind.TheVariants.{UnknownMaterial, NoRates}
+use Rattle.report_rules.specs.text_rules.declared.TextKind.TheVariants.{NoProduct}
+use Rattle.report_rules.specs.text_rules.declared.TextKind.TheVariants.{DoubleExclusion}
+use Rattle.report_rules.specs.text_rules.declared.TextKind.TheVariants.{DoubleMember}
+use Rattle.report_rules.specs.text_rules.declared.TextKind.TheVariants.{FewMembers, UnknownUnit}
+use Rattle.report_rules.specs.text_rules.declared.TextKind.TheVariants.{BadPayout}
+use Rattle.report_rules.specs.text_rules.Fault.{Fault}
+use Rattle.report_rules.specs.text_rules.Value.{read_text}
+use Rattle.report_rules.specs.text_rules.State.{ShelfState}
 use Rattle.studio_rules.specs.Ending.{Says}
 use Rattle.studio_rules.specs.declared.status.Status.{Status}
 use Rattle.studio_rules.specs.declared.status.Status.TheVariants.{BadProblem, TooLong}

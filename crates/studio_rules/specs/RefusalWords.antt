@@ -1,11 +1,13 @@
 -- The words that say why a claim, a line at the head of a tree, or a node is refused.
 use Rattle.std.specs.Prelude.{ℕ, List, ◌∷◌, ◌++◌, codes, decimal}
-use Rattle.tree_rules.specs.declared.why.Why.{Why}
-use Rattle.tree_rules.specs.declared.why.Why.TheVariants.{Unknown, Axiom, Exclusion, Flows, Cost}
-use Rattle.tree_rules.specs.declared.why.Why.TheVariants.{Step, Options, Open, Dead, Clash, Refuted}
-use Rattle.tree_rules.specs.declared.why.Why.TheVariants.{Bound, Cover, Sum}
-use Rattle.tree_rules.specs.declared.line_why.LineWhy.{LineWhy}
-use Rattle.tree_rules.specs.declared.line_why.LineWhy.TheVariants as lines
+use Rattle.report_rules.specs.tree_rules.declared.why.Why.{Why}
+use Rattle.report_rules.specs.tree_rules.declared.why.Why.TheVariants.{Unknown, Axiom, Exclusion}
+use Rattle.report_rules.specs.tree_rules.declared.why.Why.TheVariants.{Flows, Cost}
+use Rattle.report_rules.specs.tree_rules.declared.why.Why.TheVariants.{Step, Options, Open, Dead}
+use Rattle.report_rules.specs.tree_rules.declared.why.Why.TheVariants.{Clash, Refuted}
+use Rattle.report_rules.specs.tree_rules.declared.why.Why.TheVariants.{Bound, Cover, Sum}
+use Rattle.report_rules.specs.tree_rules.declared.line_why.LineWhy.{LineWhy}
+use Rattle.report_rules.specs.tree_rules.declared.line_why.LineWhy.TheVariants as lines
 
 -- the word for a cause
 abbrev pub why_word : Why → List ℕ

@@ -3,13 +3,14 @@
 -- network meets the bounds, those that clash. The headings show the units of measure that FILE
 -- names. With a head it has neither a lower bound nor bounds that clash.
 use Rattle.std.specs.Prelude.{◌≡◌, ◌++◌, ℕ, List, [], ◌∷◌, Option, Some, None, codes, decimal}
-use Rattle.problem_rules.specs.Problem.{Problem}
-use Rattle.tree_rules.specs.declared.why.Why.{Why}
-use Rattle.tree_rules.specs.Claim.{Claim, Network, network, infeasible, unknown, ClaimFails}
-use Rattle.tree_rules.specs.Accepted.{Tree}
-use Rattle.tree_rules.specs.declared.line_why.LineWhy.{LineWhy}
-use Rattle.tree_rules.specs.Head.{HeadLine}
-use Rattle.tree_text_rules.specs.Read.{HeadedCertificate}
+use Rattle.report_rules.specs.problem_rules.Problem.{Problem}
+use Rattle.report_rules.specs.tree_rules.declared.why.Why.{Why}
+use Rattle.report_rules.specs.tree_rules.Claim.{Claim, Network, network, infeasible, unknown}
+use Rattle.report_rules.specs.tree_rules.Claim.{ClaimFails}
+use Rattle.report_rules.specs.tree_rules.Accepted.{Tree}
+use Rattle.report_rules.specs.tree_rules.declared.line_why.LineWhy.{LineWhy}
+use Rattle.report_rules.specs.tree_rules.Head.{HeadLine}
+use Rattle.report_rules.specs.tree_text_rules.Read.{HeadedCertificate}
 use Rattle.report_rules.specs.declared.verdict.Verdict.{Verdict}
 use Rattle.report_rules.specs.declared.verdict.Verdict.TheVariants.{Proved, Unfinished, Fails}
 use Rattle.report_rules.specs.declared.lower_bound.LowerBound.{LowerBound}

@@ -1,21 +1,25 @@
 -- SCRIPT is read and judged after FILE: first its form, then its meaning on the problem.
 use Rattle.std.specs.Prelude.{◌≡◌, ◌≤◌, ◌⊎◌, ◌++◌, ℕ, List, [], ◌∷◌, Ok, Err, length, map, codes}
 use Rattle.std.specs.Prelude.{decimal}
-use Rattle.text_rules.specs.Outside.{Told}
-use Rattle.problem_rules.specs.Problem.{Problem}
-use Rattle.edit_rules.specs.Edit.{Edit, Script}
-use Rattle.edit_rules.specs.Formed.{script_of}
-use Rattle.edit_rules.specs.Script.{CanApply, applied, undoing}
-use Rattle.edit_rules.specs.declared.EditKind.{EditKind}
-use Rattle.edit_rules.specs.declared.EditKind.TheVariants.{FileType, BadLine, BadName, BadNumber}
-use Rattle.edit_rules.specs.declared.EditKind.TheVariants.{TooFine, TooLarge, Sign, BadTerms}
-use Rattle.edit_rules.specs.declared.EditKind.TheVariants.{UnknownName, DoubleName, BadPlace}
-use Rattle.edit_rules.specs.declared.EditKind.TheVariants.{LowAboveHigh, InUse, NoProduct}
-use Rattle.edit_rules.specs.declared.EditKind.TheVariants.{TooMany, BadMembers}
-use Rattle.edit_rules.specs.Line.{file_type}
-use Rattle.edit_rules.specs.Read.{read_script}
-use Rattle.edit_rules.specs.Printed.{edit_line}
-use Rattle.edit_rules.specs.Meaning.{HasFaultAt}
+use Rattle.report_rules.specs.text_rules.Outside.{Told}
+use Rattle.report_rules.specs.problem_rules.Problem.{Problem}
+use Rattle.report_rules.specs.edit_rules.Edit.{Edit, Script}
+use Rattle.report_rules.specs.edit_rules.Formed.{script_of}
+use Rattle.report_rules.specs.edit_rules.Script.{CanApply, applied, undoing}
+use Rattle.report_rules.specs.edit_rules.declared.EditKind.{EditKind}
+use Rattle.report_rules.specs.edit_rules.declared.EditKind.TheVariants.{FileType, BadLine, BadName}
+use Rattle.report_rules.specs.edit_rules.declared.EditKind.TheVariants.{BadNumber}
+use Rattle.report_rules.specs.edit_rules.declared.EditKind.TheVariants.{TooFine, TooLarge, Sign}
+use Rattle.report_rules.specs.edit_rules.declared.EditKind.TheVariants.{BadTerms}
+use Rattle.report_rules.specs.edit_rules.declared.EditKind.TheVariants.{UnknownName, DoubleName}
+use Rattle.report_rules.specs.edit_rules.declared.EditKind.TheVariants.{BadPlace}
+use Rattle.report_rules.specs.edit_rules.declared.EditKind.TheVariants.{LowAboveHigh, InUse}
+use Rattle.report_rules.specs.edit_rules.declared.EditKind.TheVariants.{NoProduct}
+use Rattle.report_rules.specs.edit_rules.declared.EditKind.TheVariants.{TooMany, BadMembers}
+use Rattle.report_rules.specs.edit_rules.Line.{file_type}
+use Rattle.report_rules.specs.edit_rules.Read.{read_script}
+use Rattle.report_rules.specs.edit_rules.Printed.{edit_line}
+use Rattle.report_rules.specs.edit_rules.Meaning.{HasFaultAt}
 use Rattle.studio_rules.specs.Reading.{AreHeld, IsLong, OnSecond, file_limit}
 use Rattle.studio_rules.specs.declared.status.Status.{Status}
 use Rattle.studio_rules.specs.declared.status.Status.TheVariants.{BadEdit, TooLong}

@@ -1,6 +1,6 @@
 -- Second lines: help for people, which follows the first line. Their wording is not promised.
 use Rattle.std.specs.Prelude.{◌≡◌, ◌≤◌, ℕ, List, ◌∷◌}
-use Rattle.problem_rules.specs.Each.{Each}
+use Rattle.report_rules.specs.problem_rules.Each.{Each}
 use Rattle.studio_rules.specs.Lines.{text_of}
 
 -- a line that begins with two blanks, of printable bytes alone

@@ -1,11 +1,11 @@
 -- `show FILE BUDGET`: what `solve` with this budget and then `report` of its tree would print, with
 -- the status of `solve`. The bytes of FILE name the units of measure. The tree may have a head.
 use Rattle.std.specs.Prelude.{◌≡◌, ◌⊎◌, ℕ, List}
-use Rattle.problem_rules.specs.Problem.{Problem}
-use Rattle.tree_rules.specs.Claim.{Claim}
-use Rattle.tree_rules.specs.Accepted.{Tree}
-use Rattle.tree_rules.specs.Head.{HeadLine}
-use Rattle.tree_text_rules.specs.Read.{Certificate, HeadedCertificate}
+use Rattle.report_rules.specs.problem_rules.Problem.{Problem}
+use Rattle.report_rules.specs.tree_rules.Claim.{Claim}
+use Rattle.report_rules.specs.tree_rules.Accepted.{Tree}
+use Rattle.report_rules.specs.tree_rules.Head.{HeadLine}
+use Rattle.report_rules.specs.tree_text_rules.Read.{Certificate, HeadedCertificate}
 use Rattle.report_rules.specs.declared.verdict.Verdict.TheVariants.{Proved}
 use Rattle.report_rules.specs.declared.headed_verdict.HeadedVerdict.TheVariants as headed
 use Rattle.report_rules.specs.Measures.{Measures, measures_of}

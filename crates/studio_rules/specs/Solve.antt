@@ -2,27 +2,29 @@
 -- proves it, which may have a head. If the search stopped before its end: the tree as far as it
 -- came, without a head. The lines are those of a tree text.
 use Rattle.std.specs.Prelude.{◌≡◌, ◌⊎◌, ℕ, Bool, List, Ok}
-use Rattle.problem_rules.specs.Problem.{Problem}
-use Rattle.pns_rules.specs.Shape.{shape_of}
-use Rattle.pns_rules.specs.Structure.{IsStructure, IsAllowed}
-use Rattle.pns_rules.specs.Nodes.{Node}
-use Rattle.pns_rules.specs.Ends.{IsSound, IsReduced}
-use Rattle.flow_rules.specs.declared.place.Column.{Column}
-use Rattle.flow_rules.specs.declared.place.Place.{Place}
-use Rattle.flow_rules.specs.Net.{net_of}
-use Rattle.flow_rules.specs.PastPlace.{IsPastNamed}
-use Rattle.tree_rules.specs.Claim.{Claim, Network, network, infeasible, claimed_cost, IsFeasible}
-use Rattle.tree_rules.specs.Leaf.{IsUntried}
-use Rattle.tree_rules.specs.Accepted.{Tree, first_node}
-use Rattle.tree_rules.specs.Stops.{IsSpent, IsPast}
-use Rattle.tree_rules.specs.Costs.{CostsEnough}
-use Rattle.tree_rules.specs.Tail.{Tail, whole, spent, past}
-use Rattle.tree_rules.specs.Head.{HeadLine}
-use Rattle.tree_text_rules.specs.Read.{Certificate, read_text, HeadedCertificate, read_headed_text}
-use Rattle.tree_text_rules.specs.Spelling.{tree_text_lines, headed_text_lines}
-use Rattle.tree_rules.specs.Past.{IsPastAt}
-use Rattle.tree_rules.specs.Proved.{IsProved, IsStopped, IsBelowLimit}
-use Rattle.tree_rules.specs.HeadedProved.{IsProvedBy}
+use Rattle.report_rules.specs.problem_rules.Problem.{Problem}
+use Rattle.report_rules.specs.pns_rules.Shape.{shape_of}
+use Rattle.report_rules.specs.pns_rules.Structure.{IsStructure, IsAllowed}
+use Rattle.report_rules.specs.pns_rules.Nodes.{Node}
+use Rattle.report_rules.specs.pns_rules.Ends.{IsSound, IsReduced}
+use Rattle.report_rules.specs.flow_rules.declared.place.Column.{Column}
+use Rattle.report_rules.specs.flow_rules.declared.place.Place.{Place}
+use Rattle.report_rules.specs.flow_rules.Net.{net_of}
+use Rattle.report_rules.specs.flow_rules.PastPlace.{IsPastNamed}
+use Rattle.report_rules.specs.tree_rules.Claim.{Claim, Network, network, infeasible, claimed_cost}
+use Rattle.report_rules.specs.tree_rules.Claim.{IsFeasible}
+use Rattle.report_rules.specs.tree_rules.Leaf.{IsUntried}
+use Rattle.report_rules.specs.tree_rules.Accepted.{Tree, first_node}
+use Rattle.report_rules.specs.tree_rules.Stops.{IsSpent, IsPast}
+use Rattle.report_rules.specs.tree_rules.Costs.{CostsEnough}
+use Rattle.report_rules.specs.tree_rules.Tail.{Tail, whole, spent, past}
+use Rattle.report_rules.specs.tree_rules.Head.{HeadLine}
+use Rattle.report_rules.specs.tree_text_rules.Read.{Certificate, read_text, HeadedCertificate}
+use Rattle.report_rules.specs.tree_text_rules.Read.{read_headed_text}
+use Rattle.report_rules.specs.tree_text_rules.Spelling.{tree_text_lines, headed_text_lines}
+use Rattle.report_rules.specs.tree_rules.Past.{IsPastAt}
+use Rattle.report_rules.specs.tree_rules.Proved.{IsProved, IsStopped, IsBelowLimit}
+use Rattle.report_rules.specs.tree_rules.HeadedProved.{IsProvedBy}
 use Rattle.studio_rules.specs.Lines.{text_of}
 use Rattle.studio_rules.specs.Printed.{spelled}
 use Rattle.studio_rules.specs.declared.status.Status.{Status}

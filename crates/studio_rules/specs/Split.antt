@@ -1,14 +1,14 @@
 -- `split FILE TREE`: the open leaves, in preorder, of a branch tree that proves its claim but for
 -- them. Or else the first line of the claim, or the first node, that fails, with its cause.
 use Rattle.std.specs.Prelude.{◌≡◌, ◌⊎◌, ◌++◌, ℕ, Bool, true, List, [], ◌∷◌, codes, decimal, map}
-use Rattle.number_sets.specs.Sets.{listed}
-use Rattle.problem_rules.specs.Problem.{Problem}
-use Rattle.pns_rules.specs.Shape.{shape_of}
-use Rattle.tree_rules.specs.declared.why.Why.{Why}
-use Rattle.tree_rules.specs.Claim.{Claim, ClaimPasses, ClaimFails}
-use Rattle.tree_rules.specs.Accepted.{Tree, first_node, IsPartial, NodeIsFault}
-use Rattle.tree_text_rules.specs.OpenLeaves.{OpenAt, open_leaves}
-use Rattle.pns_rules.specs.Tokens.{token_of}
+use Rattle.report_rules.specs.number_sets.Sets.{listed}
+use Rattle.report_rules.specs.problem_rules.Problem.{Problem}
+use Rattle.report_rules.specs.pns_rules.Shape.{shape_of}
+use Rattle.report_rules.specs.tree_rules.declared.why.Why.{Why}
+use Rattle.report_rules.specs.tree_rules.Claim.{Claim, ClaimPasses, ClaimFails}
+use Rattle.report_rules.specs.tree_rules.Accepted.{Tree, first_node, IsPartial, NodeIsFault}
+use Rattle.report_rules.specs.tree_text_rules.OpenLeaves.{OpenAt, open_leaves}
+use Rattle.report_rules.specs.pns_rules.Tokens.{token_of}
 use Rattle.studio_rules.specs.RefusalWords.{claim_line, node_line}
 use Rattle.studio_rules.specs.declared.status.Status.{Status}
 use Rattle.studio_rules.specs.declared.status.Status.TheVariants.{Done, BadClaim}

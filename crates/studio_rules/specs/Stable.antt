@@ -5,11 +5,11 @@ use Rattle.std.specs.Prelude.{decimal, option_map}
 use Rattle.std.specs.List.{position}
 use Rattle.std.specs.Str.{bytes_eq}
 use Rattle.std.specs.Fmt.{signed_decimal}
-use Rattle.problem_rules.specs.Problem.{Problem, material_names, unit_names}
-use Rattle.tree_rules.specs.Claim.{Network, Claim}
-use Rattle.tree_rules.specs.Accepted.{Tree}
-use Rattle.tree_text_rules.specs.Line.{Token}
-use Rattle.tree_text_rules.specs.Spelling.{network_lines}
+use Rattle.report_rules.specs.problem_rules.Problem.{Problem, material_names, unit_names}
+use Rattle.report_rules.specs.tree_rules.Claim.{Network, Claim}
+use Rattle.report_rules.specs.tree_rules.Accepted.{Tree}
+use Rattle.report_rules.specs.tree_text_rules.Line.{Token}
+use Rattle.report_rules.specs.tree_text_rules.Spelling.{network_lines}
 use Rattle.report_rules.specs.declared.spot.Spot.{Spot}
 use Rattle.report_rules.specs.declared.spot.Spot.TheVariants as spots
 use Rattle.report_rules.specs.declared.side.Side.{Side}

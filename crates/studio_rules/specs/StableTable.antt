@@ -3,12 +3,12 @@
 use Rattle.std.specs.Prelude.{◌≡◌, ◌⊎◌, ◌++◌, ◌||◌, ℕ, ℤ, Bool, false, List, [], ◌∷◌, Option, Some}
 use Rattle.std.specs.Prelude.{None, codes, map, flat_map, if◌then◌else◌}
 use Rattle.std.specs.Str.{bytes_eq}
-use Rattle.number_sets.specs.Sets.{has}
-use Rattle.problem_rules.specs.Problem.{Problem, material_at, unit_at}
-use Rattle.text_rules.specs.Printed.{amount_bytes}
-use Rattle.flow_rules.specs.Net.{net_of, materials_of}
-use Rattle.tree_rules.specs.Claim.{Network}
-use Rattle.tree_text_rules.specs.Read.{Certificate}
+use Rattle.report_rules.specs.number_sets.Sets.{has}
+use Rattle.report_rules.specs.problem_rules.Problem.{Problem, material_at, unit_at}
+use Rattle.report_rules.specs.text_rules.Printed.{amount_bytes}
+use Rattle.report_rules.specs.flow_rules.Net.{net_of, materials_of}
+use Rattle.report_rules.specs.tree_rules.Claim.{Network}
+use Rattle.report_rules.specs.tree_text_rules.Read.{Certificate}
 use Rattle.report_rules.specs.declared.column.Sort.{Sort}
 use Rattle.report_rules.specs.declared.column.Sort.TheVariants.{Words, Sums}
 use Rattle.report_rules.specs.Aligned.{table_lines, cell_at}

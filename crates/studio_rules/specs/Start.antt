@@ -1,12 +1,12 @@
 -- The node at which a run begins, by two words: the token of the units that are taken in, and that
 -- of the units that are left out.
 use Rattle.std.specs.Prelude.{◌≡◌, ◌⊎◌, ℕ, List, [], ◌∷◌, codes}
-use Rattle.number_sets.specs.Sets.{has}
-use Rattle.problem_rules.specs.Problem.{Problem}
-use Rattle.pns_rules.specs.Shape.{shape_of}
-use Rattle.pns_rules.specs.Ends.{IsSound}
-use Rattle.tree_rules.specs.Known.{AreUnits}
-use Rattle.pns_rules.specs.Tokens.{token_of}
+use Rattle.report_rules.specs.number_sets.Sets.{has}
+use Rattle.report_rules.specs.problem_rules.Problem.{Problem}
+use Rattle.report_rules.specs.pns_rules.Shape.{shape_of}
+use Rattle.report_rules.specs.pns_rules.Ends.{IsSound}
+use Rattle.report_rules.specs.tree_rules.Known.{AreUnits}
+use Rattle.report_rules.specs.pns_rules.Tokens.{token_of}
 use Rattle.studio_rules.specs.declared.status.Status.{Status}
 use Rattle.studio_rules.specs.declared.status.Status.TheVariants.{BadNode}
 

@@ -2,13 +2,13 @@
 -- of the tree that proves it.
 use Rattle.std.specs.Prelude.{◌≡◌, ◌⊎◌, ◌++◌, ℕ, false, List, [], ◌∷◌, length, codes, decimal}
 use Rattle.std.specs.Fmt.{signed_decimal}
-use Rattle.number_sets.specs.Sets.{has, IsSet}
-use Rattle.problem_rules.specs.Problem.{Problem, unit_names}
-use Rattle.pns_rules.specs.Shape.{shape_of}
-use Rattle.pns_rules.specs.Structure.{IsUnion}
-use Rattle.tree_rules.specs.Claim.{Network, network, infeasible}
-use Rattle.tree_rules.specs.Accepted.{Tree}
-use Rattle.tree_rules.specs.Tail.{whole}
+use Rattle.report_rules.specs.number_sets.Sets.{has, IsSet}
+use Rattle.report_rules.specs.problem_rules.Problem.{Problem, unit_names}
+use Rattle.report_rules.specs.pns_rules.Shape.{shape_of}
+use Rattle.report_rules.specs.pns_rules.Structure.{IsUnion}
+use Rattle.report_rules.specs.tree_rules.Claim.{Network, network, infeasible}
+use Rattle.report_rules.specs.tree_rules.Accepted.{Tree}
+use Rattle.report_rules.specs.tree_rules.Tail.{whole}
 use Rattle.studio_rules.specs.Lines.{spaced_names, names_in}
 use Rattle.studio_rules.specs.Solve.{Solves, AreTextOf, PlainWork}
 use Rattle.studio_rules.specs.declared.status.Status.{Status}

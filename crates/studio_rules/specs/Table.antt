@@ -1,8 +1,8 @@
 -- `table FILE TREE`: the network of the claim as two tables with an empty line between them.
 use Rattle.std.specs.Prelude.{◌≡◌, ◌++◌, ℕ, List, [], ◌∷◌, map}
 use Rattle.csv.specs.Writing.{default_writer, row_text}
-use Rattle.problem_rules.specs.Problem.{Problem}
-use Rattle.tree_rules.specs.Claim.{Network}
+use Rattle.report_rules.specs.problem_rules.Problem.{Problem}
+use Rattle.report_rules.specs.tree_rules.Claim.{Network}
 use Rattle.report_rules.specs.Table.{AreUnitRows, AreMaterialRows, unit_heading, material_heading}
 use Rattle.studio_rules.specs.Lines.{line}
 use Rattle.studio_rules.specs.declared.status.Status.{Status}

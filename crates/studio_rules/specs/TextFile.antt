@@ -1,10 +1,10 @@
 -- TEXT is a ranking if its first line says so. Any other file is judged as a tree.
 use Rattle.std.specs.Prelude.{◌⊎◌, ℕ, Bool, true, false, List}
-use Rattle.text_rules.specs.Outside.{Told}
-use Rattle.problem_rules.specs.Problem.{Problem}
-use Rattle.tree_text_rules.specs.Read.{HeadedCertificate}
-use Rattle.rank_rules.specs.Text.{Text}
-use Rattle.rank_rules.specs.Headed.{is_ranking}
+use Rattle.report_rules.specs.text_rules.Outside.{Told}
+use Rattle.report_rules.specs.problem_rules.Problem.{Problem}
+use Rattle.report_rules.specs.tree_text_rules.Read.{HeadedCertificate}
+use Rattle.report_rules.specs.rank_rules.Text.{Text}
+use Rattle.report_rules.specs.rank_rules.Headed.{is_ranking}
 use Rattle.studio_rules.specs.Reading.{OnSecond}
 use Rattle.studio_rules.specs.HeadedFile.{HeadedSays}
 use Rattle.studio_rules.specs.Rankcheck.{RankFault, GivesRanking}

@@ -1,16 +1,19 @@
 -- TREE is read and judged by its grammar after FILE: a claim, a tree and a tail.
 use Rattle.std.specs.Prelude.{◌≡◌, ◌≤◌, ◌⊎◌, ◌++◌, ℕ, List, [], ◌∷◌, Ok, Err, length, codes}
 use Rattle.std.specs.Prelude.{decimal}
-use Rattle.text_rules.specs.Outside.{Told}
-use Rattle.problem_rules.specs.Problem.{Problem}
-use Rattle.tree_rules.specs.Claim.{Claim}
-use Rattle.tree_rules.specs.Accepted.{Tree}
-use Rattle.tree_rules.specs.Tail.{Tail}
-use Rattle.tree_text_rules.specs.declared.TreeKind.{TreeKind}
-use Rattle.tree_text_rules.specs.declared.TreeKind.TheVariants.{FileType, BadLine, UnknownName}
-use Rattle.tree_text_rules.specs.declared.TreeKind.TheVariants.{BadNumber, Order, WrongCount}
-use Rattle.tree_text_rules.specs.declared.TreeKind.TheVariants.{MoreNodes, FewerNodes, AfterEnd}
-use Rattle.tree_text_rules.specs.Read.{read_text}
+use Rattle.report_rules.specs.text_rules.Outside.{Told}
+use Rattle.report_rules.specs.problem_rules.Problem.{Problem}
+use Rattle.report_rules.specs.tree_rules.Claim.{Claim}
+use Rattle.report_rules.specs.tree_rules.Accepted.{Tree}
+use Rattle.report_rules.specs.tree_rules.Tail.{Tail}
+use Rattle.report_rules.specs.tree_text_rules.declared.TreeKind.{TreeKind}
+use Rattle.report_rules.specs.tree_text_rules.declared.TreeKind.TheVariants.{FileType, BadLine}
+use Rattle.report_rules.specs.tree_text_rules.declared.TreeKind.TheVariants.{UnknownName}
+use Rattle.report_rules.specs.tree_text_rules.declared.TreeKind.TheVariants.{BadNumber, Order}
+use Rattle.report_rules.specs.tree_text_rules.declared.TreeKind.TheVariants.{WrongCount}
+use Rattle.report_rules.specs.tree_text_rules.declared.TreeKind.TheVariants.{MoreNodes, FewerNodes}
+use Rattle.report_rules.specs.tree_text_rules.declared.TreeKind.TheVariants.{AfterEnd}
+use Rattle.report_rules.specs.tree_text_rules.Read.{read_text}
 use Rattle.studio_rules.specs.Reading.{AreHeld, IsLong, OnSecond}
 use Rattle.studio_rules.specs.declared.status.Status.{Status}
 use Rattle.studio_rules.specs.declared.status.Status.TheVariants.{BadTree, TooLong}

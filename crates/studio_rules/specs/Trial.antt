@@ -1,7 +1,7 @@
 -- `trial NUMBER UNITS BUDGET`: the search of the problem that `make` prints for the same numbers,
 -- with a summary of what it solves.
 use Rattle.std.specs.Prelude.{ℕ, List}
-use Rattle.problem_rules.specs.Generated.{generated}
+use Rattle.report_rules.specs.problem_rules.Generated.{generated}
 use Rattle.studio_rules.specs.Summary.{SummaryWork}
 use Rattle.studio_rules.specs.declared.status.Status.{Status}
 

@@ -18,6 +18,7 @@ mod scene;
 mod status;
 mod topic_pages;
 
+pub use report_rules::{Item, RankWhy, SpotKind, Warning, Why};
 pub use scene::Scene;
 pub use status::Status;
 pub use topic_pages::TOPIC_PAGES;

@@ -10,10 +10,10 @@ use Rattle.std.specs.List.{list_all, slice_split, position_or_len, onto_first, b
 use Rattle.std.specs.List.{after_first}
 use Rattle.std.proofs.lemmas.List.Splits.{slice_split-cons_no, slice_split_first}
 use Rattle.std.specs.Str.{bytes_eq, byte}
-use Rattle.problem_rules.specs.Names.{is_name, is_among, has_double}
+use Rattle.studio_rules.specs.problem_rules.Names.{is_name, is_among, has_double}
 use Rattle.studio_rules.specs.Command.{unit_names_of}
 use Rattle.studio_words.specs.Gathering.{gathered}
-use Rattle.pns_problem.proofs.NameLemmas.{bytes_eq-sym}
+use Rattle.pns_problem.proofs.Cited.{bytes_eq-sym}
 
 or_true : (a : Bool) → (a || true) ≡ true
 or_true true = refl

@@ -6,7 +6,7 @@ use Rattle.std.specs.Prelude.{nat_le, if◌then◌else◌}
 use Rattle.std.proofs.lemmas.Bool.{lt-leb}
 use Rattle.std.specs.List.{list_all}
 use Rattle.std.specs.Char.{is_ascii_digit}
-use Rattle.text_rules.specs.Amount.{number_from, number_of}
+use Rattle.studio_rules.specs.text_rules.Amount.{number_from, number_of}
 
 number_from-grows : (n : ℕ) (cs : List ℕ) → n ≤ number_from n cs
 number_from-grows n [] = omega arith

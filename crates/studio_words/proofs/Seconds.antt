@@ -2,7 +2,7 @@
 use Rattle.std.proofs.Common.{◌≡◌, ◌≤◌, ◌++◌, ◌∷◌, [], ℕ, List, Bool, true, false, if◌then◌else◌}
 use Rattle.std.proofs.Common.{refl, sym, ap, subst, ◌∙◌, append-nil}
 use Rattle.std.proofs.lemmas.Grind.{flat_map-append}
-use Rattle.problem_rules.specs.Each.{Each}
+use Rattle.studio_rules.specs.problem_rules.Each.{Each}
 use Rattle.studio_rules.specs.Lines.{line, text_of}
 use Rattle.studio_rules.specs.Seconds.{IsSecond, AreSeconds}
 

@@ -5,7 +5,7 @@ use Rattle.std.proofs.Common.{string_bytes, option_map}
 use Rattle.std.specs.Prelude.{◌==◌, ◌*◌, nat_le, if◌then◌else◌}
 use Rattle.std.specs.Str.{bytes_eq, byte}
 use Rattle.std.proofs.lemmas.Bool.{leb-true}
-use Rattle.text_rules.specs.Amount.{number_of}
+use Rattle.studio_rules.specs.text_rules.Amount.{number_of}
 use Rattle.studio_rules.specs.Numeral.{is_numeral, number_within, last_byte, but_last}
 use Rattle.studio_rules.specs.PageLines.{text_of, IsOfLines}
 use Rattle.studio_rules.specs.Overview.{overview, version}
@@ -25,7 +25,7 @@ use Rattle.studio_rules.specs.Command.{Json, Planning, Parting, PartingAgainst, 
 use Rattle.studio_rules.specs.Command.{RangingAll, scene_of}
 use Rattle.studio_rules.specs.declared.scene.Scene.{Scene}
 use Rattle.studio_rules.specs.declared.scene.Scene.TheVariants as scenes
-use Rattle.report_rules.specs.declared.spot.SpotKind.{SpotKind}
+use Rattle.studio_rules.specs.report_rules.declared.spot.SpotKind.{SpotKind}
 
 numeral_within : (least most : ℕ) (word : List ℕ)
     → IfSome (number_within least most word) (λ n. (least ≤ n) × (n ≤ most))

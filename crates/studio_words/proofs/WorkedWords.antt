@@ -7,7 +7,7 @@ use Rattle.studio_rules.specs.Command.{Ranking, Planning, Parting, PartingAgains
 use Rattle.studio_rules.specs.Command.{Checking, Merging, Flows, Telling, RangingAll}
 use Rattle.studio_rules.specs.Command.{DrawingNetwork}
 use Rattle.studio_rules.specs.declared.scene.Scene.TheVariants as scenes
-use Rattle.report_rules.specs.declared.spot.SpotKind.TheVariants as kinds
+use Rattle.studio_rules.specs.report_rules.declared.spot.SpotKind.TheVariants as kinds
 
 -- budgets
 thousands : budget_of (codes "10k") ≡ Some 10000

@@ -16,9 +16,8 @@ use crate::merging::merging_of;
 use crate::number::number_within;
 use crate::unit_names::UnitNames;
 use crate::{command_page_on, overview_text, page_on, version_text};
-use report_rules::SpotKind;
 use std::alloc::{AllocError, Global};
-use studio_rules::Scene;
+use studio_rules::{Scene, SpotKind};
 
 /// A command with its words.
 #[derive(Drop)]

@@ -61,4 +61,5 @@ pub use reasons::{
     Stop, bad_node, bad_token, has_payout, no_leaf, no_network, not_finished, out_of_range,
     read_fault, refused, too_long, unknown_material, unknown_unit,
 };
+pub use studio_rules::{Item, RankWhy, Scene, Status, Warning};
 pub use unit_names::UnitNames;

@@ -2,7 +2,7 @@
 ghost use Rattle.std.specs.Prelude.{◌≡◌, ◌==◌, ◌&&◌, ℕ, Option, Some, None, nat_le, if◌then◌else◌};
 ghost use Rattle.std.specs.List.{list_all};
 ghost use Rattle.std.specs.Char.{is_ascii_digit};
-ghost use Rattle.text_rules.specs.Amount.{number_of};
+ghost use Rattle.studio_rules.specs.text_rules.Amount.{number_of};
 ghost use Rattle.studio_rules.specs.Numeral.{has_leading_zero, number_within};
 
 /// The number that the bytes of a word spell, if it is from `least` to `most`.

@@ -4,7 +4,7 @@ use crate::nearest::Nearest;
 use crate::notes::{Notes, Piece};
 use pns_problem::Problem;
 use std::alloc::Global;
-use tree_rules::Why;
+use studio_rules::Why;
 
 // One line.
 fn note(alloc: Global, pieces: &[Piece<'_>]) -> Notes {

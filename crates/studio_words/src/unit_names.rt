@@ -3,7 +3,7 @@ ghost use Rattle.std.specs.Prelude.{◌≡◌, ◌==◌, ◌<◌, ◌++◌, ◌&
 ghost use Rattle.std.specs.Prelude.{IfSome, IfNone, OnOk, not, slice_index_or};
 ghost use Rattle.std.specs.List.{slice_split};
 ghost use Rattle.std.specs.Str.{byte};
-ghost use Rattle.problem_rules.specs.Names.{is_name, is_among};
+ghost use Rattle.studio_rules.specs.problem_rules.Names.{is_name, is_among};
 ghost use Rattle.studio_rules.specs.Command.{unit_names_of};
 ghost use Rattle.studio_words.specs.Gathering.{gathered};
 

@@ -14,13 +14,14 @@ use Rattle.text_rules.specs.declared.Section.{Section}
 use Rattle.text_rules.specs.declared.Section.TheVariants.{Preamble, MeasurementUnits, Defaults}
 use Rattle.text_rules.specs.declared.Section.TheVariants.{Materials, OperatingUnits, Rates}
 use Rattle.text_rules.specs.declared.Section.TheVariants.{Exclusions}
-use Rattle.problem_rules.specs.Names.{is_name, continues_name}
-use Rattle.problem_rules.specs.Problem.{Material, OperatingUnit, Exclusion, Problem}
-use Rattle.problem_rules.specs.Problem.{material_names}
-use Rattle.problem_rules.specs.Problem.{unit_names}
-use Rattle.problem_rules.specs.Each.{Each}
-use Rattle.problem_rules.specs.WellFormed.{IsWellFormed, IsWellFormedMaterial, IsWellFormedUnit}
-use Rattle.problem_rules.specs.WellFormed.{IsWellFormedExclusion}
+use Rattle.text_rules.specs.problem_rules.Names.{is_name, continues_name}
+use Rattle.text_rules.specs.problem_rules.Problem.{Material, OperatingUnit, Exclusion, Problem}
+use Rattle.text_rules.specs.problem_rules.Problem.{material_names}
+use Rattle.text_rules.specs.problem_rules.Problem.{unit_names}
+use Rattle.text_rules.specs.problem_rules.Each.{Each}
+use Rattle.text_rules.specs.problem_rules.WellFormed.{IsWellFormed, IsWellFormedMaterial}
+use Rattle.text_rules.specs.problem_rules.WellFormed.{IsWellFormedUnit}
+use Rattle.text_rules.specs.problem_rules.WellFormed.{IsWellFormedExclusion}
 use Rattle.text_rules.specs.Line.{Placed, is_colon, head_of, section_named, placed_from, standing}
 use Rattle.text_rules.specs.Line.{body_of, lines_of, lines_at, is_section, is_at, is_meant}
 use Rattle.text_rules.specs.Line.{matters}

@@ -7,12 +7,14 @@ use Rattle.std.specs.List.{list_any}
 use Rattle.std.specs.Result.{result_unwrap_or}
 use Rattle.std.proofs.lemmas.Bool.{cond_both, cond-true, cond-false, and_left, or_from, or_left}
 use Rattle.std.proofs.lemmas.Bool.{true≢false}
-use Rattle.problem_rules.specs.Names.{is_among}
-use Rattle.problem_rules.specs.Problem.{Material, Term, OperatingUnit, Exclusion, Problem}
-use Rattle.problem_rules.specs.Problem.{material_names, unit_names}
-use Rattle.problem_rules.specs.Each.{Each}
-use Rattle.problem_rules.specs.WellFormed.{IsWellFormed, IsWellFormedMaterial, IsWellFormedUnit}
-use Rattle.problem_rules.specs.WellFormed.{IsWellFormedExclusion, IsWellFormedTerm}
+use Rattle.text_rules.specs.problem_rules.Names.{is_among}
+use Rattle.text_rules.specs.problem_rules.Problem.{Material, Term, OperatingUnit, Exclusion}
+use Rattle.text_rules.specs.problem_rules.Problem.{Problem}
+use Rattle.text_rules.specs.problem_rules.Problem.{material_names, unit_names}
+use Rattle.text_rules.specs.problem_rules.Each.{Each}
+use Rattle.text_rules.specs.problem_rules.WellFormed.{IsWellFormed, IsWellFormedMaterial}
+use Rattle.text_rules.specs.problem_rules.WellFormed.{IsWellFormedUnit}
+use Rattle.text_rules.specs.problem_rules.WellFormed.{IsWellFormedExclusion, IsWellFormedTerm}
 use Rattle.text_rules.specs.declared.TextKind.{TextKind}
 use Rattle.text_rules.specs.declared.TextKind.TheVariants.{NoProduct, LowAboveHigh, UnknownMaterial}
 use Rattle.text_rules.specs.declared.TextKind.TheVariants.{NoRates, UnknownUnit}

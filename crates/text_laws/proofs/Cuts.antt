@@ -10,7 +10,7 @@ use Rattle.std.proofs.lemmas.List.{reverse-append, length-reverse}
 use Rattle.std.proofs.lemmas.List.Elements.{All-cons, All-nil}
 use Rattle.std.proofs.lemmas.List.Folds.{list_any-append, prefix_len-append}
 use Rattle.std.proofs.lemmas.List.Splits.{slice_split_none, slice_split_at}
-use Rattle.problem_rules.specs.Each.{Each}
+use Rattle.text_rules.specs.problem_rules.Each.{Each}
 use Rattle.text_rules.specs.Blanks.{is_blank, trim, trim_back}
 use Rattle.text_rules.specs.Canonical.{joined}
 

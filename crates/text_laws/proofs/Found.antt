@@ -8,10 +8,10 @@ use Rattle.std.specs.List.{position_or_len}
 use Rattle.std.specs.Result.{result_unwrap_or}
 use Rattle.std.proofs.lemmas.Bool.{cond-true, cond-false, or_parts, or_left, or_right, cases_Bool}
 use Rattle.std.proofs.lemmas.Bool.{true≢false, or_cases}
-use Rattle.problem_rules.specs.Each.{Each}
-use Rattle.problem_rules.specs.Names.{is_among, has_double}
-use Rattle.problem_rules.specs.Problem.{Term}
-use Rattle.problem_rules.specs.WellFormed.{IsWellFormedTerm, AreRisingFrom}
+use Rattle.text_rules.specs.problem_rules.Each.{Each}
+use Rattle.text_rules.specs.problem_rules.Names.{is_among, has_double}
+use Rattle.text_rules.specs.problem_rules.Problem.{Term}
+use Rattle.text_rules.specs.problem_rules.WellFormed.{IsWellFormedTerm, AreRisingFrom}
 use Rattle.text_rules.specs.declared.TextKind.{TextKind}
 use Rattle.text_rules.specs.declared.Section.{Section}
 use Rattle.text_rules.specs.Line.{Placed, head_of}

@@ -7,11 +7,13 @@ use Rattle.std.specs.List.{list_any}
 use Rattle.std.specs.Result.{result_unwrap_or}
 use Rattle.std.proofs.lemmas.Bool.{cond_both, cond-false, lt-leb, and_right, and_from}
 use Rattle.std.proofs.Math.Nat.{mul-mod_left}
-use Rattle.problem_rules.specs.Names.{is_name, is_among, has_double}
-use Rattle.problem_rules.specs.Problem.{Kind, raw_material, intermediate, product, Material}
-use Rattle.problem_rules.specs.Problem.{OperatingUnit}
-use Rattle.problem_rules.specs.Each.{Each}
-use Rattle.problem_rules.specs.WellFormed.{IsBound, IsWellFormedMaterial, IsWellFormedUnit}
+use Rattle.text_rules.specs.problem_rules.Names.{is_name, is_among, has_double}
+use Rattle.text_rules.specs.problem_rules.Problem.{Kind, raw_material, intermediate, product}
+use Rattle.text_rules.specs.problem_rules.Problem.{Material}
+use Rattle.text_rules.specs.problem_rules.Problem.{OperatingUnit}
+use Rattle.text_rules.specs.problem_rules.Each.{Each}
+use Rattle.text_rules.specs.problem_rules.WellFormed.{IsBound, IsWellFormedMaterial}
+use Rattle.text_rules.specs.problem_rules.WellFormed.{IsWellFormedUnit}
 use Rattle.text_rules.specs.declared.TextKind.{TextKind}
 use Rattle.text_rules.specs.declared.TextKind.TheVariants.{BadLine, BadName, UnknownKey, DoubleKey}
 use Rattle.text_rules.specs.declared.TextKind.TheVariants.{UnknownKind, DoubleMaterial, DoubleUnit}

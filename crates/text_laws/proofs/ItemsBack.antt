@@ -3,9 +3,10 @@ use Rattle.std.proofs.Common.{◌≡◌, ◌≤◌, true, ℕ, suc, List, [], �
 use Rattle.std.proofs.Common.{unsigned_abs, sym, ◌∙◌, ap, arith, eqb-true}
 use Rattle.std.specs.Result.{result_unwrap_or}
 use Rattle.std.proofs.lemmas.Bool.{cond_both}
-use Rattle.problem_rules.specs.Problem.{Kind, raw_material, intermediate, product, Material, Term}
-use Rattle.problem_rules.specs.Problem.{OperatingUnit}
-use Rattle.problem_rules.specs.WellFormed.{IsWellFormedMaterial, IsWellFormedUnit}
+use Rattle.text_rules.specs.problem_rules.Problem.{Kind, raw_material, intermediate, product}
+use Rattle.text_rules.specs.problem_rules.Problem.{Material, Term}
+use Rattle.text_rules.specs.problem_rules.Problem.{OperatingUnit}
+use Rattle.text_rules.specs.problem_rules.WellFormed.{IsWellFormedMaterial, IsWellFormedUnit}
 use Rattle.text_rules.specs.declared.TextKind.{TextKind}
 use Rattle.text_rules.specs.Blanks.{trim}
 use Rattle.text_rules.specs.Amount.{amount_limit}

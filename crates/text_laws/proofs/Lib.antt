@@ -1,5 +1,6 @@
 mod CanonicalParts
 mod CanonicalReads
+pub mod Cited
 pub mod Clear
 pub mod Cuts
 pub mod Digits

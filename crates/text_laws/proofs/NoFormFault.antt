@@ -4,12 +4,14 @@ use Rattle.std.proofs.Common.{map, codes, Option, Some, None, ℤ, pos, negsuc, 
 use Rattle.std.proofs.Common.{refl, sym, ◌∙◌, ap, subst, arith, ltb-true, length-append}
 use Rattle.std.proofs.Common.{append_assoc, append-nil, if◌then◌else◌}
 use Rattle.std.proofs.lemmas.Bool.{cond_both, cond-true, cond-false, or_parts}
-use Rattle.problem_rules.specs.Names.{is_among, has_double}
-use Rattle.problem_rules.specs.Problem.{Material, OperatingUnit, Exclusion, Problem, material_names}
-use Rattle.problem_rules.specs.Problem.{unit_names, exclusion_names}
-use Rattle.problem_rules.specs.Each.{Each}
-use Rattle.problem_rules.specs.WellFormed.{IsWellFormed, IsWellFormedMaterial, IsWellFormedUnit}
-use Rattle.problem_rules.specs.WellFormed.{IsWellFormedExclusion}
+use Rattle.text_rules.specs.problem_rules.Names.{is_among, has_double}
+use Rattle.text_rules.specs.problem_rules.Problem.{Material, OperatingUnit, Exclusion, Problem}
+use Rattle.text_rules.specs.problem_rules.Problem.{material_names}
+use Rattle.text_rules.specs.problem_rules.Problem.{unit_names, exclusion_names}
+use Rattle.text_rules.specs.problem_rules.Each.{Each}
+use Rattle.text_rules.specs.problem_rules.WellFormed.{IsWellFormed, IsWellFormedMaterial}
+use Rattle.text_rules.specs.problem_rules.WellFormed.{IsWellFormedUnit}
+use Rattle.text_rules.specs.problem_rules.WellFormed.{IsWellFormedExclusion}
 use Rattle.text_rules.specs.declared.TextKind.{TextKind}
 use Rattle.text_rules.specs.declared.TextKind.TheVariants.{DoubleSection}
 use Rattle.text_rules.specs.declared.Section.{Section}

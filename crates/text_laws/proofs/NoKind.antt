@@ -4,8 +4,8 @@ use Rattle.std.proofs.Common.{List, [], ◌∷◌, ◌++◌, length, filter, byt
 use Rattle.std.proofs.Common.{None, refl, if◌then◌else◌, ltb-false}
 use Rattle.std.specs.List.{list_any}
 use Rattle.std.proofs.lemmas.Bool.{or_parts, not-false}
-use Rattle.problem_rules.specs.Names.{is_name, is_among, has_double}
-use Rattle.problem_rules.specs.Each.{Each}
+use Rattle.text_rules.specs.problem_rules.Names.{is_name, is_among, has_double}
+use Rattle.text_rules.specs.problem_rules.Each.{Each}
 use Rattle.text_rules.specs.declared.Section.{Section}
 use Rattle.text_rules.specs.declared.Section.TheVariants.{Preamble, MeasurementUnits, Defaults}
 use Rattle.text_rules.specs.declared.Section.TheVariants.{Materials, OperatingUnits, Rates}

@@ -3,10 +3,10 @@ use Rattle.std.proofs.Common.{◌≡◌, ◌<◌, ◌≤◌, ◌+◌, ◌||◌, 
 use Rattle.std.proofs.Common.{sym, ◌∙◌, ap, arith, ne_eqb, eq-eqb}
 use Rattle.std.specs.List.{list_any}
 use Rattle.std.proofs.lemmas.Bool.{or_parts, or_from, true≢false}
-use Rattle.problem_rules.specs.Each.{Each}
-use Rattle.problem_rules.specs.Problem.{Term, numbers_of, terms_have}
-use Rattle.problem_rules.specs.Validity.{repeats_material, shares_material}
-use Rattle.problem_rules.specs.WellFormed.{AreRisingFrom}
+use Rattle.text_rules.specs.problem_rules.Each.{Each}
+use Rattle.text_rules.specs.problem_rules.Problem.{Term, numbers_of, terms_have}
+use Rattle.text_rules.specs.problem_rules.Validity.{repeats_material, shares_material}
+use Rattle.text_rules.specs.problem_rules.WellFormed.{AreRisingFrom}
 
 abbrev pub has_number : ℕ → List ℕ → Bool
 has_number n [] = false

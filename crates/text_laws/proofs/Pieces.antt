@@ -5,7 +5,7 @@ use Rattle.std.proofs.Common.{ne_eqb}
 use Rattle.std.specs.List.{list_all, list_any, prefix_len, suffix_len, slice_split}
 use Rattle.std.proofs.lemmas.Bool.{cond-true, and_left, and_right, or_from, or_parts, or_left}
 use Rattle.text_rules.specs.Blanks.{is_blank, trim}
-use Rattle.problem_rules.specs.Names.{continues_name, is_name}
+use Rattle.text_rules.specs.problem_rules.Names.{continues_name, is_name}
 use Rattle.text_rules.specs.Line.{is_colon, head_of, tail_of, is_header}
 use Rattle.text_rules.specs.Field.{items_of, tokens_of}
 use Rattle.text_rules.specs.Canonical.{joined, spaced, named, item_line, token_text}
@@ -13,7 +13,7 @@ use Rattle.text_laws.proofs.PrintedAmount.{all_to}
 use Rattle.text_laws.proofs.Cuts.{not_mark, none_from_all, none-append, before_mark, after_mark}
 use Rattle.text_laws.proofs.Cuts.{any_mark, no_prefix, suffix_behind, suffix_none, prefix_none}
 use Rattle.text_laws.proofs.Cuts.{trim_none, trim_space, joined_none, split_joined}
-use Rattle.problem_rules.specs.Each.{Each}
+use Rattle.text_rules.specs.problem_rules.Each.{Each}
 use Rattle.text_laws.proofs.Each.{each-map, each-to}
 use Rattle.text_laws.proofs.PrintedLines.{IsLine}
 use Rattle.text_laws.proofs.Words.{IsWord}

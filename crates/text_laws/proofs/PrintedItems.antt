@@ -3,20 +3,21 @@ use Rattle.std.proofs.Common.{◌<◌, ◌≤◌, ◌==◌, ◌+◌, ℕ, zero, 
 use Rattle.std.proofs.Common.{codes}
 use Rattle.std.proofs.Common.{ℤ, unsigned_abs, refl, arith}
 use Rattle.std.proofs.lemmas.Bool.{cond_both}
-use Rattle.problem_rules.specs.Problem.{Kind, raw_material, intermediate, product, Material, Term}
-use Rattle.problem_rules.specs.Problem.{OperatingUnit}
+use Rattle.text_rules.specs.problem_rules.Problem.{Kind, raw_material, intermediate, product}
+use Rattle.text_rules.specs.problem_rules.Problem.{Material, Term}
+use Rattle.text_rules.specs.problem_rules.Problem.{OperatingUnit}
 use Rattle.text_rules.specs.Amount.{amount_limit}
 use Rattle.text_rules.specs.Canonical.{field, kind_word, material_items, is_zero}
 use Rattle.text_rules.specs.Canonical.{field_unless_zero}
 use Rattle.text_rules.specs.Canonical.{unit_items, name_at, term_tokens}
 use Rattle.text_rules.specs.Printed.{amount_bytes}
-use Rattle.problem_rules.specs.Each.{Each}
+use Rattle.text_rules.specs.problem_rules.Each.{Each}
 use Rattle.text_laws.proofs.Each.{each-append}
 use Rattle.text_laws.proofs.Pieces.{IsPiece, word_piece}
 use Rattle.text_laws.proofs.Words.{IsWord, amount_word}
-use Rattle.problem_rules.specs.WellFormed.{IsWellFormedMaterial, IsWellFormedUnit}
-use Rattle.problem_rules.specs.WellFormed.{IsWellFormedTerm}
-use Rattle.problem_rules.specs.WellFormed.{AreRisingFrom}
+use Rattle.text_rules.specs.problem_rules.WellFormed.{IsWellFormedMaterial, IsWellFormedUnit}
+use Rattle.text_rules.specs.problem_rules.WellFormed.{IsWellFormedTerm}
+use Rattle.text_rules.specs.problem_rules.WellFormed.{AreRisingFrom}
 
 -- the items of a material and of a unit
 piece_field : (key : List ℕ) → ((value : List ℕ) → IsPiece value → IsPiece (field key value))

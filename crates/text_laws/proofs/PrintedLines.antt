@@ -8,7 +8,7 @@ use Rattle.text_rules.specs.Blanks.{is_blank, trim}
 use Rattle.text_rules.specs.Line.{without_return, without_empty_last, is_remark, without_remark}
 use Rattle.text_rules.specs.Line.{lines_of, without_mark}
 use Rattle.text_laws.proofs.Cuts.{split_at, take_front, trim_solid}
-use Rattle.problem_rules.specs.Each.{Each}
+use Rattle.text_rules.specs.problem_rules.Each.{Each}
 use Rattle.text_laws.proofs.Each.{each-to, map_same}
 
 -- a line as it is printed: no line feed, no carriage return and no number sign, and no blank at its

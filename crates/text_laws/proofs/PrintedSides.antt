@@ -4,18 +4,18 @@ use Rattle.std.proofs.Common.{unsigned_abs, refl, ◌∙◌, ap, arith, length-a
 use Rattle.std.specs.List.{list_any, slice_split}
 use Rattle.std.proofs.lemmas.Bool.{cond_both}
 use Rattle.text_rules.specs.Printed.{amount_bytes}
-use Rattle.problem_rules.specs.Problem.{Term, OperatingUnit}
+use Rattle.text_rules.specs.problem_rules.Problem.{Term, OperatingUnit}
 use Rattle.text_rules.specs.Field.{tokens_of, terms_of, sides_of}
 use Rattle.text_rules.specs.Canonical.{joined, named, name_at, term_tokens, side_tokens, token_text}
 use Rattle.text_rules.specs.Canonical.{rates_tokens}
-use Rattle.problem_rules.specs.Each.{Each}
+use Rattle.text_rules.specs.problem_rules.Each.{Each}
 use Rattle.text_laws.proofs.Each.{each-append, each-map, each-to, none_from_each}
 use Rattle.text_laws.proofs.Cuts.{split_at, split_none, joined_none, split_joined, joined_some}
 use Rattle.text_laws.proofs.Words.{IsWord, is_plus, is_arrow, word_no_plus, word_no_arrow}
 use Rattle.text_laws.proofs.Words.{terms_split}
 use Rattle.text_laws.proofs.Pieces.{IsPiece, IsTail, IsNamed, word_piece, named_apart, tokens_tail}
 use Rattle.text_laws.proofs.Pieces.{tokens_apart}
-use Rattle.problem_rules.specs.WellFormed.{IsWellFormedTerm, IsWellFormedUnit}
+use Rattle.text_rules.specs.problem_rules.WellFormed.{IsWellFormedTerm, IsWellFormedUnit}
 use Rattle.text_laws.proofs.PrintedItems.{term_words}
 
 plus_piece : IsPiece (codes "+")

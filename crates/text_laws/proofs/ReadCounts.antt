@@ -15,9 +15,9 @@ use Rattle.std.specs.Ordering.{flip_args}
 use Rattle.std.specs.Cmp.{back_equiv}
 use Rattle.std.specs.List.{IsDistinct}
 use Rattle.std.proofs.lemmas.Slice.Eq.{bytes_eq-Decides}
-use Rattle.problem_rules.specs.Names.{is_among, has_double}
-use Rattle.problem_rules.specs.Each.{Each}
-use Rattle.problem_rules.specs.WellFormed.{AreRisingFrom}
+use Rattle.text_rules.specs.problem_rules.Names.{is_among, has_double}
+use Rattle.text_rules.specs.problem_rules.Each.{Each}
+use Rattle.text_rules.specs.problem_rules.WellFormed.{AreRisingFrom}
 use Rattle.text_rules.specs.declared.Section.{Section}
 use Rattle.text_rules.specs.declared.Section.TheVariants.{Materials, OperatingUnits, Rates}
 use Rattle.text_rules.specs.declared.Section.TheVariants.{Exclusions}

@@ -8,8 +8,8 @@ use Rattle.std.specs.List.{list_any}
 use Rattle.std.specs.Result.{result_unwrap_or}
 use Rattle.std.proofs.lemmas.Bool.{cond_both, true≢false}
 use Rattle.std.proofs.lemmas.Slice.Eq.{bytes_eq-Decides}
-use Rattle.problem_rules.specs.Each.{Each}
-use Rattle.problem_rules.specs.WellFormed.{IsInRange, IsBound}
+use Rattle.text_rules.specs.problem_rules.Each.{Each}
+use Rattle.text_rules.specs.problem_rules.WellFormed.{IsInRange, IsBound}
 use Rattle.text_rules.specs.declared.TextKind.{TextKind}
 use Rattle.text_rules.specs.declared.TextKind.TheVariants.{BadNumber, TooFine, TooLarge, Negative}
 use Rattle.text_rules.specs.declared.Section.TheVariants.{Defaults}

@@ -13,13 +13,13 @@ use Rattle.std.proofs.lemmas.List.{length-map}
 use Rattle.std.proofs.lemmas.List.Folds.{list_any-append}
 use Rattle.std.proofs.lemmas.Slice.Eq.{bytes_eq-Decides}
 use mathlib.Core.List.{map-append, map-map}
-use Rattle.problem_rules.specs.Names.{is_name, is_among, has_double}
-use Rattle.problem_rules.specs.Problem.{Material, OperatingUnit, Exclusion, Problem}
-use Rattle.problem_rules.specs.Problem.{material_names}
-use Rattle.problem_rules.specs.Problem.{unit_names, exclusion_names}
-use Rattle.problem_rules.specs.WellFormed.{IsWellFormedMaterial, IsWellFormedUnit}
-use Rattle.problem_rules.specs.WellFormed.{IsWellFormedExclusion, IsWellFormed}
-use Rattle.problem_rules.specs.Each.{Each}
+use Rattle.text_rules.specs.problem_rules.Names.{is_name, is_among, has_double}
+use Rattle.text_rules.specs.problem_rules.Problem.{Material, OperatingUnit, Exclusion, Problem}
+use Rattle.text_rules.specs.problem_rules.Problem.{material_names}
+use Rattle.text_rules.specs.problem_rules.Problem.{unit_names, exclusion_names}
+use Rattle.text_rules.specs.problem_rules.WellFormed.{IsWellFormedMaterial, IsWellFormedUnit}
+use Rattle.text_rules.specs.problem_rules.WellFormed.{IsWellFormedExclusion, IsWellFormed}
+use Rattle.text_rules.specs.problem_rules.Each.{Each}
 use Rattle.text_rules.specs.declared.TextKind.TheVariants.{FileType, NoProduct, NoRates}
 use Rattle.text_rules.specs.declared.Section.{Section}
 use Rattle.text_rules.specs.declared.Section.TheVariants.{Defaults, Materials, OperatingUnits}

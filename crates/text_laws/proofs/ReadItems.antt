@@ -8,12 +8,13 @@ use Rattle.std.proofs.lemmas.Bool.{cond-true, or_parts, or_from, true≢false, n
 use Rattle.std.proofs.lemmas.List.{length-map}
 use Rattle.std.proofs.lemmas.List.Sums.{passes_at_first}
 use Rattle.std.proofs.lemmas.Slice.Eq.{bytes_eq-Decides}
-use Rattle.problem_rules.specs.Names.{is_name, is_among, has_double}
-use Rattle.problem_rules.specs.Problem.{Term, numbers_of}
-use Rattle.problem_rules.specs.Validity.{shares_material}
-use Rattle.problem_rules.specs.WellFormed.{IsWellFormedMaterial, IsWellFormedTerm, IsWellFormedSide}
-use Rattle.problem_rules.specs.WellFormed.{IsWellFormedUnit}
-use Rattle.problem_rules.specs.Each.{Each}
+use Rattle.text_rules.specs.problem_rules.Names.{is_name, is_among, has_double}
+use Rattle.text_rules.specs.problem_rules.Problem.{Term, numbers_of}
+use Rattle.text_rules.specs.problem_rules.Validity.{shares_material}
+use Rattle.text_rules.specs.problem_rules.WellFormed.{IsWellFormedMaterial, IsWellFormedTerm}
+use Rattle.text_rules.specs.problem_rules.WellFormed.{IsWellFormedSide}
+use Rattle.text_rules.specs.problem_rules.WellFormed.{IsWellFormedUnit}
+use Rattle.text_rules.specs.problem_rules.Each.{Each}
 use Rattle.text_rules.specs.declared.TextKind.TheVariants.{Negative, ZeroRate}
 use Rattle.text_rules.specs.Field.{for_material, for_unit}
 use Rattle.text_rules.specs.Term.{Pair}

@@ -8,7 +8,7 @@ use Rattle.std.specs.List.{list_all, slice_split}
 use Rattle.std.specs.Char.{is_ascii_digit}
 use Rattle.std.proofs.lemmas.Bool.{and_parts, and_left, or_cases, or_left, or_right}
 use Rattle.std.proofs.lemmas.Fmt.{decimal_nonempty}
-use Rattle.problem_rules.specs.Names.{continues_name, begins_name, is_name}
+use Rattle.text_rules.specs.problem_rules.Names.{continues_name, begins_name, is_name}
 use Rattle.text_rules.specs.Amount.{is_point, is_digit_or_point, amount_limit}
 use Rattle.text_rules.specs.Field.{terms_of}
 use Rattle.text_rules.specs.Printed.{amount_bytes}

@@ -1,7 +1,7 @@
 -- Laws of the problem text. Each is the contract of a public function of this crate.
 use Rattle.std.specs.Prelude.{◌≡◌, ◌≤◌, ℕ, List, Ok, ℤ, unsigned_abs}
-use Rattle.problem_rules.specs.Problem.{Problem}
-use Rattle.problem_rules.specs.Validity.{IsValid}
+use Rattle.text_rules.specs.problem_rules.Problem.{Problem}
+use Rattle.text_rules.specs.problem_rules.Validity.{IsValid}
 use Rattle.text_rules.specs.Amount.{amount_limit, amount_of}
 use Rattle.text_rules.specs.Canonical.{canonical}
 use Rattle.text_rules.specs.Printed.{amount_bytes}

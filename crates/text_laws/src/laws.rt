@@ -2,7 +2,7 @@
 ghost use Rattle.text_laws.specs.Laws.{AmountsReadBack, CanonicalReads, CanonicalTells};
 ghost use Rattle.text_laws.specs.Laws.{ReadIsValid};
 
-use problem_rules::valid_is_well_formed;
+use text_rules::valid_is_well_formed;
 
 /// A printed amount of at most 10^15 millionths reads as that amount.
 pub fn amounts_read_back()

@@ -6,7 +6,7 @@ use Rattle.std.specs.List.{list_all}
 use Rattle.std.proofs.lemmas.Bool.{and_parts}
 use Rattle.std.proofs.lemmas.Bool.Decides.{nat_tests}
 use Rattle.std.proofs.lemmas.Str.{IsUtf8-from_ascii}
-use Rattle.problem_rules.specs.Names.{is_name, begins_name, continues_name}
+use Rattle.edit_rules.specs.problem_rules.Names.{is_name, begins_name, continues_name}
 
 low : (c : ℕ) → continues_name c ≡ true → c < 128
 low c h = grind (arith, nat_tests)

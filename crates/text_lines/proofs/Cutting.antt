@@ -8,7 +8,7 @@ use Rattle.std.proofs.lemmas.List.{take_all}
 use Rattle.std.specs.List.{slice_split, onto_first, position_or_len}
 use Rattle.std.proofs.lemmas.List.Splits.{slice_split_first, slice_split-cons_no}
 use Rattle.std.proofs.lemmas.List.Splits.{length-slice_split}
-use Rattle.text_rules.specs.Line.{without_empty_last}
+use Rattle.edit_rules.specs.text_rules.Line.{without_empty_last}
 use Rattle.text_lines.specs.Lines.{line_by, lines_by}
 use Rattle.text_lines.specs.declared.lines.Drops.{Drops}
 use Rattle.text_lines.specs.declared.lines.Drops.TheVariants.{Return, ReturnAndBlanks}

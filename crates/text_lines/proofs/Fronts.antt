@@ -11,15 +11,17 @@ use Rattle.std.proofs.lemmas.Bool.{and_from, or_from, or_parts, cases_lt, cases_
 use Rattle.std.proofs.lemmas.List.{take_more}
 use Rattle.std.proofs.lemmas.List.Folds.{list_all-append, list_all_more}
 use Rattle.std.proofs.lemmas.List.Sums.{sum_by-append, sum_by-cons}
-use Rattle.text_laws.proofs.Cuts.{not_mark, none_from_all, before_mark, after_mark, any_mark}
-use Rattle.text_laws.proofs.Digits.{number-append, all-append}
-use Rattle.text_laws.proofs.PrintedAmount.{all_to, count_none, count_all, before_none, after_none}
-use Rattle.text_rules.specs.Amount.{is_point, is_digit_or_point, is_exponent_mark, has_minus}
-use Rattle.text_rules.specs.Amount.{without_sign, number_from, number_of, is_mantissa, is_exponent}
-use Rattle.text_rules.specs.Amount.{scaled, with_sign, amount_of}
+use Rattle.text_laws.proofs.Cited.{not_mark, none_from_all, before_mark, after_mark, any_mark}
+use Rattle.text_laws.proofs.Cited.{number-append, all-append, all_to, count_none, count_all}
+use Rattle.text_laws.proofs.Cited.{before_none, after_none}
+use Rattle.edit_rules.specs.text_rules.Amount.{is_point, is_digit_or_point, is_exponent_mark}
+use Rattle.edit_rules.specs.text_rules.Amount.{has_minus}
+use Rattle.edit_rules.specs.text_rules.Amount.{without_sign, number_from, number_of, is_mantissa}
+use Rattle.edit_rules.specs.text_rules.Amount.{is_exponent}
+use Rattle.edit_rules.specs.text_rules.Amount.{scaled, with_sign, amount_of}
 use Rattle.text_lines.specs.declared.amount.Front.{Front}
-use Rattle.text_rules.specs.declared.TextKind.TheVariants.{BadNumber}
-use Rattle.text_rules.specs.declared.TextKind.{TextKind}
+use Rattle.edit_rules.specs.text_rules.declared.TextKind.TheVariants.{BadNumber}
+use Rattle.edit_rules.specs.text_rules.declared.TextKind.{TextKind}
 use Rattle.text_lines.specs.Numbers.{begins, IsFront, tens_read}
 use Rattle.text_lines.proofs.Tens.{room_more}
 

@@ -10,10 +10,10 @@ use Rattle.std.specs.List.{list_any, position, position_or_len}
 use Rattle.std.proofs.Math.Bool.{or_assoc, or_comm}
 use Rattle.std.proofs.lemmas.List.{length-map, map-append, at_drop_more}
 use Rattle.std.proofs.lemmas.List.Folds.{list_any-append}
-use Rattle.problem_rules.specs.Names.{is_among, has_double}
-pub use Rattle.problem_rules.proofs.ItemLemmas.{bytes_eq-sym}
+use Rattle.edit_rules.specs.problem_rules.Names.{is_among, has_double}
+pub use Rattle.edit_rules.proofs.problem_rules.ItemLemmas.{bytes_eq-sym}
 use Rattle.text_lines.specs.View.{texts}
-use Rattle.text_rules.specs.Fault.{with_name}
+use Rattle.edit_rules.specs.text_rules.Fault.{with_name}
 use Rattle.text_lines.specs.Once.{once}
 
 -- a table has the text if it is among the names

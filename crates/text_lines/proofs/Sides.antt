@@ -12,8 +12,8 @@ use Rattle.std.proofs.lemmas.List.Splits.{length-slice_split}
 use Rattle.text_lines.proofs.Cutting.{split-at, split-none}
 use Rattle.text_lines.specs.View.{texts}
 use Rattle.text_lines.specs.Terms.{begins, terms_read, both_read, only_two, is_plus, is_arrow}
-use Rattle.text_rules.specs.Term.{Pair, is_bad_term, pair_of, sides_read}
-use Rattle.text_rules.specs.Field.{terms_of}
+use Rattle.edit_rules.specs.text_rules.Term.{Pair, is_bad_term, pair_of, sides_read}
+use Rattle.edit_rules.specs.text_rules.Field.{terms_of}
 
 more_good : (b c : Bool) (pair : Pair) (pairs : List Pair) (t : Pair)
     → (if b then None else Some t) ≡ Some pair

@@ -6,9 +6,9 @@ use Rattle.std.proofs.Common.{◌∙◌, ap, arith}
 use Rattle.std.proofs.Math.Nat.{pow-le-pow_right, mul-le-mul_left, mul-le-mul_right, mod-eq_of_lt}
 use Rattle.std.proofs.lemmas.Nat.{pow-add}
 use Rattle.std.proofs.lemmas.Bool.{lt-ltb, ne_eqb, cond-true, cond-false, and_parts}
-use Rattle.text_laws.proofs.Digits.{pow-pos}
-use Rattle.text_rules.specs.Amount.{scaled_by, amount_limit}
-use Rattle.text_rules.specs.declared.TextKind.TheVariants.{TooFine, TooLarge}
+use Rattle.text_laws.proofs.Cited.{pow-pos}
+use Rattle.edit_rules.specs.text_rules.Amount.{scaled_by, amount_limit}
+use Rattle.edit_rules.specs.text_rules.declared.TextKind.TheVariants.{TooFine, TooLarge}
 
 pub power_some : (k : ℕ) → 0 < 10 ^ k
 power_some = pow-pos

@@ -9,7 +9,7 @@ use Rattle.std.specs.Str.{byte}
 use Rattle.std.proofs.lemmas.Bool.{lt-leb}
 use Rattle.std.proofs.lemmas.List.{at_drop_more}
 use Rattle.std.specs.Char.{is_ascii_digit}
-use Rattle.text_rules.specs.Amount.{number_from, number_of}
+use Rattle.edit_rules.specs.text_rules.Amount.{number_from, number_of}
 use Rattle.edit_rules.specs.ScriptFault.{whole_within}
 
 one_more : (b : Bool) (n d : ℕ) → n ≤ (if b then 10 * n + d else n)

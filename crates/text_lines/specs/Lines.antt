@@ -2,8 +2,8 @@
 use Rattle.std.specs.Prelude.{◌≡◌, ◌==◌, ◌⊎◌, ℕ, false, List, [], ◌∷◌, map}
 use Rattle.std.specs.List.{slice_split}
 use Rattle.std.specs.Str.{bytes_eq}
-use Rattle.text_rules.specs.Blanks.{trim}
-use Rattle.text_rules.specs.Line.{without_return, without_empty_last, without_remark}
+use Rattle.edit_rules.specs.text_rules.Blanks.{trim}
+use Rattle.edit_rules.specs.text_rules.Line.{without_return, without_empty_last, without_remark}
 use Rattle.edit_rules.specs.Line.{script_lines}
 use Rattle.text_lines.specs.declared.lines.Drops.{Drops}
 use Rattle.text_lines.specs.declared.lines.Drops.TheVariants.{Return, ReturnAndBlanks}

@@ -3,8 +3,9 @@ use Rattle.std.specs.Prelude.{◌≡◌, ◌<◌, ◌≤◌, ◌+◌, ◌++◌, 
 use Rattle.std.specs.Prelude.{Option, Some, None, length, count_by, if◌then◌else◌}
 use Rattle.std.specs.List.{list_all, after_first}
 use Rattle.std.specs.Char.{is_ascii_digit}
-use Rattle.text_rules.specs.Amount.{is_point, is_digit_or_point, is_exponent_mark, has_minus}
-use Rattle.text_rules.specs.Amount.{number_of, is_exponent}
+use Rattle.edit_rules.specs.text_rules.Amount.{is_point, is_digit_or_point, is_exponent_mark}
+use Rattle.edit_rules.specs.text_rules.Amount.{has_minus}
+use Rattle.edit_rules.specs.text_rules.Amount.{number_of, is_exponent}
 use Rattle.text_lines.specs.declared.amount.Front.{Front}
 
 -- whether the first byte passes

@@ -3,7 +3,7 @@
 use Rattle.std.specs.Prelude.{ℕ, Bool, List, [], ◌∷◌, Option, Some, None, map, codes, if◌then◌else◌}
 use Rattle.std.specs.List.{list_any}
 use Rattle.std.specs.Str.{bytes_eq}
-use Rattle.text_rules.specs.Term.{is_bad_term, Pair, pair_of}
+use Rattle.edit_rules.specs.text_rules.Term.{is_bad_term, Pair, pair_of}
 use Rattle.text_lines.specs.declared.term.Term.{Term}
 use Rattle.text_lines.specs.declared.term.Sides.{Sides}
 

@@ -6,15 +6,15 @@ ghost use Rattle.std.specs.Prelude.{nat_lt};
 ghost use Rattle.std.specs.Prelude.{if◌then◌else◌};
 ghost use Rattle.std.specs.List.{list_all};
 ghost use Rattle.std.specs.Char.{is_ascii_digit};
-ghost use Rattle.text_rules.specs.Amount.{is_point, is_exponent_mark, has_minus};
-ghost use Rattle.text_rules.specs.Amount.{without_sign};
-ghost use Rattle.text_rules.specs.Amount.{number_from, number_of, is_exponent};
-ghost use Rattle.text_rules.specs.Amount.{amount_limit};
-ghost use Rattle.text_rules.specs.Amount.{scaled, scaled_by, with_sign, amount_of};
-ghost use Rattle.text_rules.specs.Fault.{millionths};
+ghost use Rattle.edit_rules.specs.text_rules.Amount.{is_point, is_exponent_mark, has_minus};
+ghost use Rattle.edit_rules.specs.text_rules.Amount.{without_sign};
+ghost use Rattle.edit_rules.specs.text_rules.Amount.{number_from, number_of, is_exponent};
+ghost use Rattle.edit_rules.specs.text_rules.Amount.{amount_limit};
+ghost use Rattle.edit_rules.specs.text_rules.Amount.{scaled, scaled_by, with_sign, amount_of};
+ghost use Rattle.edit_rules.specs.text_rules.Fault.{millionths};
 ghost use Rattle.text_lines.specs.Numbers.{begins, tens_read, IsFront};
 
-use text_rules::TextKind;
+use edit_rules::TextKind;
 
 const LIMIT: u128 = 1_000_000_000_000_000;
 

@@ -2,10 +2,11 @@
 ghost use Rattle.std.specs.Prelude.{◌≡◌, ◌==◌, ◌≤◌, IfOk, length, map};
 ghost use Rattle.std.specs.List.{list_any, slice_split};
 ghost use Rattle.std.specs.Str.{byte};
-ghost use Rattle.problem_rules.specs.Names.{is_among};
-ghost use Rattle.text_rules.specs.Blanks.{trim};
-ghost use Rattle.text_rules.specs.Field.{items_of, has_key, key_of, value_of, keyed, is_keyed};
-ghost use Rattle.text_rules.specs.Field.{kind_words};
+ghost use Rattle.edit_rules.specs.problem_rules.Names.{is_among};
+ghost use Rattle.edit_rules.specs.text_rules.Blanks.{trim};
+ghost use Rattle.edit_rules.specs.text_rules.Field.{items_of, has_key, key_of, value_of, keyed};
+ghost use Rattle.edit_rules.specs.text_rules.Field.{is_keyed};
+ghost use Rattle.edit_rules.specs.text_rules.Field.{kind_words};
 ghost use Rattle.text_lines.specs.View.{texts};
 
 use crate::line::{has_colon, place_of, tail_of, trim};

@@ -22,3 +22,6 @@ pub mod term;
 pub mod token;
 pub mod whole_number;
 pub mod words;
+
+pub use edit_rules::{EditKind, Section, TextKind, Word};
+pub use text_laws::{canonical_reads, read_is_valid};

@@ -1,9 +1,10 @@
 //! Lines, and the texts before and after a mark in them.
 ghost use Rattle.std.specs.Prelude.{◌≡◌, ◌≤◌, ◌==◌, length};
 ghost use Rattle.std.specs.List.{prefix_len, suffix_len, list_any, position_or_len};
-ghost use Rattle.text_rules.specs.Blanks.{is_blank, trim_front, trim};
-ghost use Rattle.text_rules.specs.Line.{is_colon, head_of, tail_of, without_return, without_mark};
-ghost use Rattle.text_rules.specs.Line.{is_remark, without_remark};
+ghost use Rattle.edit_rules.specs.text_rules.Blanks.{is_blank, trim_front, trim};
+ghost use Rattle.edit_rules.specs.text_rules.Line.{is_colon, head_of, tail_of, without_return};
+ghost use Rattle.edit_rules.specs.text_rules.Line.{without_mark};
+ghost use Rattle.edit_rules.specs.text_rules.Line.{is_remark, without_remark};
 
 fn is_blank(c: u8) -> bool
     ensures { result ≡ is_blank c }

@@ -1,7 +1,8 @@
 //! Names, and texts among others.
 ghost use Rattle.std.specs.Prelude.{◌≡◌};
 ghost use Rattle.std.specs.List.{list_all};
-ghost use Rattle.problem_rules.specs.Names.{is_name, begins_name, continues_name, is_among};
+ghost use Rattle.edit_rules.specs.problem_rules.Names.{is_name, begins_name, continues_name};
+ghost use Rattle.edit_rules.specs.problem_rules.Names.{is_among};
 ghost use Rattle.text_lines.specs.View.{texts};
 
 fn begins_name(c: u8) -> bool

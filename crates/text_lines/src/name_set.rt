@@ -3,9 +3,9 @@ ghost use Rattle.std.specs.Prelude.{◌≡◌, ◌++◌, ◌∷◌, IfOk, not, O
 ghost use Rattle.std.specs.Prelude.{length};
 ghost use Rattle.std.specs.List.{position};
 ghost use Rattle.std.specs.Str.{bytes_eq};
-ghost use Rattle.problem_rules.specs.Names.{is_among};
+ghost use Rattle.edit_rules.specs.problem_rules.Names.{is_among};
 ghost use Rattle.text_lines.specs.View.{texts};
-ghost use Rattle.text_rules.specs.Fault.{with_name};
+ghost use Rattle.edit_rules.specs.text_rules.Fault.{with_name};
 ghost use Rattle.text_lines.specs.Once.{once};
 
 use indexmap::IndexSet;

@@ -1,11 +1,11 @@
 //! Headers and the sections that they begin.
 ghost use Rattle.std.specs.Prelude.{◌≡◌};
-ghost use Rattle.text_rules.specs.Line.{is_header, section_named, section_after};
+ghost use Rattle.edit_rules.specs.text_rules.Line.{is_header, section_named, section_after};
 
 use crate::line::{has_colon, head_of, tail_of};
 use crate::name::is_name;
 use crate::words::looked_up;
-use text_rules::Section;
+use edit_rules::Section;
 
 /// Whether the line is a header: one name and a colon with nothing after it.
 pub fn is_header(text: &[u8]) -> bool

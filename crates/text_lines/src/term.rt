@@ -2,9 +2,9 @@
 ghost use Rattle.std.specs.Prelude.{◌≡◌, ◌≤◌, IfOk, length, map, option_map};
 ghost use Rattle.std.specs.List.{slice_split, position_or_len};
 ghost use Rattle.std.specs.Str.{bytes_eq};
-ghost use Rattle.text_rules.specs.Field.{tokens_of, terms_of, sides_of};
+ghost use Rattle.edit_rules.specs.text_rules.Field.{tokens_of, terms_of, sides_of};
 ghost use Rattle.text_lines.specs.View.{texts};
-ghost use Rattle.text_rules.specs.Term.{sides_read};
+ghost use Rattle.edit_rules.specs.text_rules.Term.{sides_read};
 ghost use Rattle.text_lines.specs.Terms.{terms_view, terms_read, both_read, only_two, sides_view};
 ghost use Rattle.text_lines.specs.Terms.{begins, is_arrow};
 

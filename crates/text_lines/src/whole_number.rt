@@ -4,7 +4,7 @@ ghost use Rattle.std.specs.Prelude.{Some, None, not, length, nat_le, slice_index
 ghost use Rattle.std.specs.List.{list_all};
 ghost use Rattle.std.specs.Char.{is_ascii_digit};
 ghost use Rattle.std.specs.Str.{byte};
-ghost use Rattle.text_rules.specs.Amount.{number_of};
+ghost use Rattle.edit_rules.specs.text_rules.Amount.{number_of};
 ghost use Rattle.edit_rules.specs.ScriptFault.{is_whole, whole_within};
 
 use crate::amount::short_digits;

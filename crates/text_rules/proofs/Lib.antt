@@ -5,3 +5,4 @@ mod ReadTexts
 mod ShippedFile
 mod Texts
 mod WholeTexts
+pub use Rattle.problem_rules.proofs as problem_rules

@@ -9,3 +9,4 @@ pub mod Printed
 pub mod State
 pub mod Term
 pub mod Value
+pub use Rattle.problem_rules.specs as problem_rules

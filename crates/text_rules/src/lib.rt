@@ -18,6 +18,8 @@
 //! `pns_io` and of the commands speak of a state before a call and after it.
 #![tactic(auto)]
 
+pub use problem_rules::valid_is_well_formed;
+
 /// A kind of fault of a problem text. Of several kinds at one line the first in the order of the
 /// variants is reported.
 #[derive(Clone, Copy, Debug, PartialEq, Eq)]

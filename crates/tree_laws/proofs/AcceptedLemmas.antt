@@ -1,13 +1,13 @@
 -- The laws of trees that pass, for the trees of a problem.
 use Rattle.std.proofs.Common.{◌≡◌, ◌⊎◌, ℕ, zero, suc, ◌+◌, ◌^◌, ◌<◌, ◌≤◌, Bool, true, false, List}
 use Rattle.std.proofs.Common.{[], ◌∷◌, length, Option, subst, inl, inr, arith}
-use Rattle.number_sets.specs.Sets.{Avoids}
-use Rattle.problem_rules.specs.Problem.{Problem}
-use Rattle.problem_rules.specs.Validity.{IsValid}
-use Rattle.pns_rules.specs.Shape.{Shape, shape_of}
-use Rattle.pns_rules.specs.Structure.{IsStructure, IsAllowed, InFamily}
-use Rattle.pns_rules.specs.Nodes.{Node, is_free}
-use Rattle.pns_rules.proofs.ProperLemmas.{proper_if_valid}
+use Rattle.tree_rules.specs.number_sets.Sets.{Avoids}
+use Rattle.tree_rules.specs.problem_rules.Problem.{Problem}
+use Rattle.tree_rules.specs.problem_rules.Validity.{IsValid}
+use Rattle.tree_rules.specs.pns_rules.Shape.{Shape, shape_of}
+use Rattle.tree_rules.specs.pns_rules.Structure.{IsStructure, IsAllowed, InFamily}
+use Rattle.tree_rules.specs.pns_rules.Nodes.{Node, is_free}
+use Rattle.tree_rules.proofs.pns_rules.Cited.{proper_if_valid}
 use Rattle.tree_rules.specs.Tree.{End, branch, leaf, TreeNode, after_all, Stands}
 use Rattle.tree_rules.specs.Claim.{Claim, claimed_cost}
 use Rattle.tree_rules.specs.Leaf.{Leaf, untried, Scaled, LeafPasses}

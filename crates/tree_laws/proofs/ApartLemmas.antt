@@ -2,9 +2,9 @@
 -- that the leaf is under, and of no other leaf.
 use Rattle.std.proofs.Common.{◌≡◌, ℕ, zero, suc, List, [], ◌∷◌, ◌++◌, map, refl, sym, ap, subst}
 use Rattle.std.proofs.Common.{inl, inr}
-use Rattle.number_sets.specs.Options.{IsIn}
-use Rattle.pns_rules.specs.Shape.{Shape}
-use Rattle.pns_rules.specs.Nodes.{Node, Step, IsPossible, after}
+use Rattle.tree_rules.specs.number_sets.Options.{IsIn}
+use Rattle.tree_rules.specs.pns_rules.Shape.{Shape}
+use Rattle.tree_rules.specs.pns_rules.Nodes.{Node, Step, IsPossible, after}
 use Rattle.tree_rules.specs.Ways.{Way, MayBranch, options_at, child_at}
 use Rattle.tree_rules.specs.Tree.{End, branch, leaf, TreeNode, StepsPass, after_all, below, Stands}
 use Rattle.tree_rules.specs.Tree.{EndPasses, Pass}

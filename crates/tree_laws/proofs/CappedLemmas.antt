@@ -2,12 +2,12 @@
 use Rattle.std.proofs.Common.{◌≡◌, ℕ, zero, suc, ℤ, ◌+ℤ◌, ◌-ℤ◌, ◌*ℤ◌, List, [], ◌∷◌}
 use Rattle.std.proofs.Common.{length, get_or, refl, ap, arith}
 use Rattle.std.proofs.lemmas.Int.{ints}
-use Rattle.number_sets.specs.Sets.{has}
-use Rattle.problem_rules.specs.Problem.{Problem, OperatingUnit, no_unit, unit_at}
-use Rattle.problem_rules.specs.Problem.{rate_in, terms_have, is_raw_material}
-use Rattle.problem_rules.specs.Problem.{is_product, no_material, no_exclusion}
-use Rattle.pns_rules.specs.Shape.{shape_of}
-use Rattle.flow_rules.specs.Net.{Net, net_of}
+use Rattle.tree_rules.specs.number_sets.Sets.{has}
+use Rattle.tree_rules.specs.problem_rules.Problem.{Problem, OperatingUnit, no_unit, unit_at}
+use Rattle.tree_rules.specs.problem_rules.Problem.{rate_in, terms_have, is_raw_material}
+use Rattle.tree_rules.specs.problem_rules.Problem.{is_product, no_material, no_exclusion}
+use Rattle.tree_rules.specs.pns_rules.Shape.{shape_of}
+use Rattle.tree_rules.specs.flow_rules.Net.{Net, net_of}
 use Rattle.tree_laws.specs.Capped.{IsCappedUnit, AreCapped, IsCapped}
 
 pub capped_length : (us vs : List OperatingUnit) → AreCapped us vs → length vs ≡ length us

@@ -6,11 +6,12 @@ use Rattle.std.proofs.lemmas.Bool.{or_right, and_from, and_parts, both_ways, not
 use Rattle.std.proofs.lemmas.List.{length-append, length-map}
 use Rattle.std.proofs.lemmas.Nat.{pow-add}
 use Rattle.std.proofs.Math.Nat.{pow-le-pow_right}
-use Rattle.number_sets.specs.Sets.{has, listed}
-use Rattle.number_sets.specs.Options.{without_and_with, subsets, with_base, non_empty}
-use Rattle.pns_rules.specs.Shape.{Shape}
-use Rattle.pns_rules.specs.Nodes.{Node, Step, raw, rival, starve, loose, sole, is_free, after}
-use Rattle.pns_rules.specs.Nodes.{free_makers, options, child}
+use Rattle.tree_rules.specs.number_sets.Sets.{has, listed}
+use Rattle.tree_rules.specs.number_sets.Options.{without_and_with, subsets, with_base, non_empty}
+use Rattle.tree_rules.specs.pns_rules.Shape.{Shape}
+use Rattle.tree_rules.specs.pns_rules.Nodes.{Node, Step, raw, rival, starve, loose, sole, is_free}
+use Rattle.tree_rules.specs.pns_rules.Nodes.{after}
+use Rattle.tree_rules.specs.pns_rules.Nodes.{free_makers, options, child}
 use Rattle.tree_rules.specs.Ways.{Way, at_material, either, MayBranch, decides, options_at}
 use Rattle.tree_rules.specs.Ways.{child_at, children_at, IsDecision}
 

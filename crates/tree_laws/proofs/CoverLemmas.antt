@@ -2,10 +2,10 @@
 -- be, and P says which pass.
 use Rattle.std.proofs.Common.{◌≡◌, ℕ, zero, suc, Bool, List, [], ◌∷◌, ◌++◌, refl, sym, subst, inl}
 use Rattle.std.proofs.Common.{inr}
-use Rattle.pns_rules.specs.Shape.{Shape, IsProper}
-use Rattle.pns_rules.specs.Structure.{InFamily}
-use Rattle.pns_rules.specs.Nodes.{Node, Step, after}
-use Rattle.pns_rules.proofs.StepLemmas.{steps_keep_families}
+use Rattle.tree_rules.specs.pns_rules.Shape.{Shape, IsProper}
+use Rattle.tree_rules.specs.pns_rules.Structure.{InFamily}
+use Rattle.tree_rules.specs.pns_rules.Nodes.{Node, Step, after}
+use Rattle.tree_rules.proofs.pns_rules.Cited.{steps_keep_families}
 use Rattle.tree_rules.specs.Ways.{Way, MayBranch, options_at, child_at, children_at}
 use Rattle.tree_rules.specs.Tree.{End, branch, leaf, TreeNode, StepsPass, after_all, below, Stands}
 use Rattle.tree_rules.specs.Tree.{EndPasses, Pass}

@@ -1,10 +1,10 @@
 -- A head without lines is as none.
 use Rattle.std.proofs.Common.{ℕ, zero, suc, Bool, List, [], ◌∷◌, ◌++◌, Option, inl, inr}
-use Rattle.problem_rules.specs.Problem.{Problem}
-use Rattle.pns_rules.specs.Shape.{Shape, shape_of}
-use Rattle.pns_rules.specs.Nodes.{Node}
-use Rattle.flow_rules.specs.Net.{net_of}
-use Rattle.flow_rules.specs.ChargeFacts.{own_facts}
+use Rattle.tree_rules.specs.problem_rules.Problem.{Problem}
+use Rattle.tree_rules.specs.pns_rules.Shape.{Shape, shape_of}
+use Rattle.tree_rules.specs.pns_rules.Nodes.{Node}
+use Rattle.tree_rules.specs.flow_rules.Net.{net_of}
+use Rattle.tree_rules.specs.flow_rules.ChargeFacts.{own_facts}
 use Rattle.tree_rules.specs.declared.why.Why.{Why}
 use Rattle.tree_rules.specs.Tree.{End, branch, leaf, TreeNode, after_all, below, EndPasses}
 use Rattle.tree_rules.specs.Fault.{EndFails, NodeFails, IsFirstFault}

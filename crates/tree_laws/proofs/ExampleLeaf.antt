@@ -2,13 +2,13 @@
 -- taken in and no unit is free. It has rules, so what is proved of trees is true of trees with such
 -- leaves.
 use Rattle.std.proofs.Common.{◌≡◌, ℕ, ◌<◌, Bool, false, List, [], ◌∷◌, Option, inl}
-use Rattle.number_sets.specs.Sets.{has}
-use Rattle.problem_rules.specs.Problem.{Problem}
-use Rattle.problem_rules.specs.Validity.{IsValid}
-use Rattle.pns_rules.specs.Shape.{Shape, shape_of}
-use Rattle.pns_rules.specs.Structure.{InFamily}
-use Rattle.pns_rules.specs.Nodes.{Node, is_free}
-use Rattle.pns_rules.proofs.ProperLemmas.{proper_if_valid}
+use Rattle.tree_rules.specs.number_sets.Sets.{has}
+use Rattle.tree_rules.specs.problem_rules.Problem.{Problem}
+use Rattle.tree_rules.specs.problem_rules.Validity.{IsValid}
+use Rattle.tree_rules.specs.pns_rules.Shape.{Shape, shape_of}
+use Rattle.tree_rules.specs.pns_rules.Structure.{InFamily}
+use Rattle.tree_rules.specs.pns_rules.Nodes.{Node, is_free}
+use Rattle.tree_rules.proofs.pns_rules.Cited.{proper_if_valid}
 use Rattle.tree_rules.specs.declared.why.Why.{Why}
 use Rattle.tree_rules.specs.declared.why.Why.TheVariants as causes
 use Rattle.tree_rules.specs.Tree.{TreeNode, Pass}

@@ -1,12 +1,12 @@
 -- What passes does not fail, and what fails does so for one cause.
 use Rattle.std.proofs.Common.{◌≡◌, ℕ, zero, suc, ℤ, Bool, List, [], ◌∷◌, ◌++◌, Option, Some, None}
 use Rattle.std.proofs.Common.{refl, sym, ap, ◌∙◌, inl, inr}
-use Rattle.problem_rules.specs.Problem.{Problem}
-use Rattle.pns_rules.specs.Shape.{Shape}
-use Rattle.pns_rules.specs.Nodes.{Node}
-use Rattle.flow_rules.specs.Net.{net_of}
-use Rattle.flow_rules.specs.ChargeFacts.{own_facts}
-use Rattle.flow_rules.proofs.LeafLemmas.{passing_has_no_cause, cause_is_one}
+use Rattle.tree_rules.specs.problem_rules.Problem.{Problem}
+use Rattle.tree_rules.specs.pns_rules.Shape.{Shape}
+use Rattle.tree_rules.specs.pns_rules.Nodes.{Node}
+use Rattle.tree_rules.specs.flow_rules.Net.{net_of}
+use Rattle.tree_rules.specs.flow_rules.ChargeFacts.{own_facts}
+use Rattle.tree_rules.proofs.flow_rules.Cited.{passing_has_no_cause, cause_is_one}
 use Rattle.tree_rules.specs.declared.why.Why.{Why}
 use Rattle.tree_rules.specs.Tree.{End, branch, leaf, TreeNode, StepsPass, after_all, below}
 use Rattle.tree_rules.specs.Tree.{EndPasses, Pass}

@@ -5,8 +5,8 @@ use Rattle.std.proofs.Common.{length, refl, arith, length-append}
 use Rattle.std.proofs.lemmas.List.{length-map}
 use Rattle.std.proofs.lemmas.Nat.{pow-add, mul-le}
 use Rattle.std.proofs.Math.Nat.{one-le-pow, pow-le-pow_right}
-use Rattle.pns_rules.specs.Shape.{Shape}
-use Rattle.pns_rules.specs.Nodes.{Node, Step, after}
+use Rattle.tree_rules.specs.pns_rules.Shape.{Shape}
+use Rattle.tree_rules.specs.pns_rules.Nodes.{Node, Step, after}
 use Rattle.tree_rules.specs.Ways.{Way, MayBranch, options_at, child_at, children_at, IsDecision}
 use Rattle.tree_rules.specs.Tree.{End, branch, leaf, TreeNode, after_all, below, Stands, EndPasses}
 use Rattle.tree_rules.specs.Tree.{Pass}

@@ -1,10 +1,10 @@
 -- A tree with a head that passes does not fail, and one that fails does so for one cause.
 use Rattle.std.proofs.Common.{◌≡◌, Bool, [], ◌∷◌, Option, sym, ap, ◌∙◌}
-use Rattle.problem_rules.specs.Problem.{Problem}
-use Rattle.pns_rules.specs.Shape.{shape_of}
-use Rattle.pns_rules.specs.Nodes.{Node}
-use Rattle.flow_rules.specs.ChargeFacts.{Facts}
-use Rattle.flow_rules.proofs.LeafLemmas.{passing_has_no_cause, cause_is_one}
+use Rattle.tree_rules.specs.problem_rules.Problem.{Problem}
+use Rattle.tree_rules.specs.pns_rules.Shape.{shape_of}
+use Rattle.tree_rules.specs.pns_rules.Nodes.{Node}
+use Rattle.tree_rules.specs.flow_rules.ChargeFacts.{Facts}
+use Rattle.tree_rules.proofs.flow_rules.Cited.{passing_has_no_cause, cause_is_one}
 use Rattle.tree_rules.specs.declared.why.Why.{Why}
 use Rattle.tree_rules.specs.Claim.{CostOver, IsAtLeast, claimed_cost}
 use Rattle.tree_rules.specs.Leaf.{Leaf, dead, clash, refuted, bounded, charged, untried}

@@ -2,15 +2,15 @@
 use Rattle.std.proofs.Common.{◌≡◌, ◌⊎◌, ℕ, ℤ, ◌*ℤ◌, Bool, true, false, List, [], ◌∷◌}
 use Rattle.std.proofs.Common.{Option, Some, None, refl, subst, inl, inr, arith}
 use Rattle.std.proofs.lemmas.Int.{ints, by_lt_z}
-use Rattle.problem_rules.specs.Problem.{Problem}
-use Rattle.problem_rules.specs.Validity.{IsValid}
-use Rattle.pns_rules.specs.Shape.{shape_of}
-use Rattle.pns_rules.specs.Structure.{IsStructure, IsAllowed, InFamily}
-use Rattle.pns_rules.specs.Nodes.{Node}
-use Rattle.pns_rules.proofs.ProperLemmas.{proper_if_valid}
-use Rattle.flow_rules.specs.Net.{net_of}
-use Rattle.flow_rules.specs.Flows.{IsFlows, cost}
-use Rattle.flow_rules.specs.ChargeFacts.{Facts, AreFacts}
+use Rattle.tree_rules.specs.problem_rules.Problem.{Problem}
+use Rattle.tree_rules.specs.problem_rules.Validity.{IsValid}
+use Rattle.tree_rules.specs.pns_rules.Shape.{shape_of}
+use Rattle.tree_rules.specs.pns_rules.Structure.{IsStructure, IsAllowed, InFamily}
+use Rattle.tree_rules.specs.pns_rules.Nodes.{Node}
+use Rattle.tree_rules.proofs.pns_rules.Cited.{proper_if_valid}
+use Rattle.tree_rules.specs.flow_rules.Net.{net_of}
+use Rattle.tree_rules.specs.flow_rules.Flows.{IsFlows, cost}
+use Rattle.tree_rules.specs.flow_rules.ChargeFacts.{Facts, AreFacts}
 use Rattle.tree_rules.specs.Tree.{leaf, Stands}
 use Rattle.tree_rules.specs.Claim.{network, Claim, infeasible, unknown, CostOver, IsAtLeast}
 use Rattle.tree_rules.specs.Claim.{claimed_cost, ClaimPasses}
@@ -28,8 +28,7 @@ use Rattle.tree_rules.specs.Headed.{head_known, head_node, head_facts, LeafPasse
 use Rattle.tree_rules.specs.Headed.{ProvesBy}
 use Rattle.tree_rules.specs.Keeps.{IsBelow, Undercuts, MayFit, Keeps}
 use Rattle.tree_rules.specs.HeadLaws.{IsCost}
-use Rattle.tree_rules.proofs.ChargedLemmas.{charged_is_empty}
-use Rattle.tree_rules.proofs.HeadLemmas.{head_keeps, head_has_facts}
+use Rattle.tree_rules.proofs.Cited.{charged_is_empty, head_keeps, head_has_facts}
 use Rattle.tree_laws.specs.HeadLaws.{AcceptedByIsLeast, AcceptedByIsOptimal, AcceptedByHasFlows}
 use Rattle.tree_laws.specs.HeadLaws.{PartialByIsLeast, PartialByIsLeastOfAll, AcceptedByIsPartialBy}
 use Rattle.tree_laws.specs.HeadLaws.{PartialByIsAcceptedBy}

@@ -2,13 +2,13 @@
 use Rattle.std.proofs.Common.{ℕ, ◌<◌, ℤ, pos, List, [], ◌∷◌, length, Option, Some}
 use Rattle.std.proofs.Common.{None, IfSome, subst, arith}
 use Rattle.std.proofs.lemmas.Int.{ints}
-use Rattle.number_sets.specs.Sets.{IsSet}
-use Rattle.integer_laws.specs.Range.{InRange, AllInRange}
-use Rattle.problem_rules.specs.Each.{Each}
-use Rattle.problem_rules.specs.Problem.{Problem, Material, Exclusion}
-use Rattle.pns_rules.specs.Nodes as nodes
-use Rattle.flow_rules.specs.Cover.{Cover}
-use Rattle.flow_rules.specs.ChargeLeaf.{Handed}
+use Rattle.tree_rules.specs.number_sets.Sets.{IsSet}
+use Rattle.tree_rules.specs.integer_laws.Range.{InRange, AllInRange}
+use Rattle.tree_rules.specs.problem_rules.Each.{Each}
+use Rattle.tree_rules.specs.problem_rules.Problem.{Problem, Material, Exclusion}
+use Rattle.tree_rules.specs.pns_rules.Nodes as nodes
+use Rattle.tree_rules.specs.flow_rules.Cover.{Cover}
+use Rattle.tree_rules.specs.flow_rules.ChargeLeaf.{Handed}
 use Rattle.tree_rules.specs.Ways as ways
 use Rattle.tree_rules.specs.Tree.{End, branch, leaf, TreeNode}
 use Rattle.tree_rules.specs.Leaf.{Leaf, dead, clash, refuted, bounded, charged, untried}

@@ -2,26 +2,24 @@
 use Rattle.std.proofs.Common.{◌≡◌, ◌⊎◌, ℕ, ℤ, pos, ◌*ℤ◌, ◌≤ℤ◌, ◌<ℤ◌, Bool, true, List, [], ◌∷◌}
 use Rattle.std.proofs.Common.{Option, Some, None, refl, subst, inl, inr, arith}
 use Rattle.std.proofs.lemmas.Int.{ints}
-use Rattle.integer_laws.proofs.Ring.{ring_z}
-use Rattle.integer_laws.proofs.Order.{mul-le_left, cancel_le}
-use Rattle.problem_rules.specs.Problem.{Problem}
-use Rattle.problem_rules.specs.Validity.{IsValid}
-use Rattle.pns_rules.specs.Shape.{Shape, shape_of}
-use Rattle.pns_rules.specs.Structure.{InFamily}
-use Rattle.pns_rules.specs.Nodes.{Node}
-use Rattle.pns_rules.proofs.ProperLemmas.{proper_if_valid}
-use Rattle.pns_rules.proofs.StepLemmas.{dead_are_empty, clashes_are_empty}
-use Rattle.flow_rules.specs.Net.{net_of}
-use Rattle.flow_rules.specs.Flows.{IsFlows, cost}
-use Rattle.flow_rules.specs.Relaxed.{bound}
-use Rattle.flow_rules.proofs.DualityLemmas.{weak_duality_holds, refutation_holds}
-use Rattle.flow_rules.specs.ChargeFacts.{own_facts}
-use Rattle.flow_rules.specs.Cover.{Cover}
-use Rattle.flow_rules.specs.ChargeLeaf.{Handed, IsScale, CoversPass, charge_of, ChargeReaches}
-use Rattle.flow_rules.specs.ChargeLeaf as charges
-use Rattle.flow_rules.specs.ChargeLaws.{AreCovers}
-use Rattle.flow_rules.proofs.ChargeDualityLemmas.{charge_duality, charge_refutes, own_facts_hold}
-use Rattle.flow_rules.proofs.ChargeDualityLemmas.{flows_fit}
+use Rattle.tree_rules.proofs.integer_laws.Cited.{ring_z, mul-le_left, cancel_le}
+use Rattle.tree_rules.specs.problem_rules.Problem.{Problem}
+use Rattle.tree_rules.specs.problem_rules.Validity.{IsValid}
+use Rattle.tree_rules.specs.pns_rules.Shape.{Shape, shape_of}
+use Rattle.tree_rules.specs.pns_rules.Structure.{InFamily}
+use Rattle.tree_rules.specs.pns_rules.Nodes.{Node}
+use Rattle.tree_rules.proofs.pns_rules.Cited.{proper_if_valid, dead_are_empty, clashes_are_empty}
+use Rattle.tree_rules.specs.flow_rules.Net.{net_of}
+use Rattle.tree_rules.specs.flow_rules.Flows.{IsFlows, cost}
+use Rattle.tree_rules.specs.flow_rules.Relaxed.{bound}
+use Rattle.tree_rules.proofs.flow_rules.Cited.{weak_duality_holds, refutation_holds, charge_duality}
+use Rattle.tree_rules.proofs.flow_rules.Cited.{charge_refutes, own_facts_hold, flows_fit}
+use Rattle.tree_rules.specs.flow_rules.ChargeFacts.{own_facts}
+use Rattle.tree_rules.specs.flow_rules.Cover.{Cover}
+use Rattle.tree_rules.specs.flow_rules.ChargeLeaf.{Handed, IsScale, CoversPass, charge_of}
+use Rattle.tree_rules.specs.flow_rules.ChargeLeaf.{ChargeReaches}
+use Rattle.tree_rules.specs.flow_rules.ChargeLeaf as charges
+use Rattle.tree_rules.specs.flow_rules.ChargeLaws.{AreCovers}
 use Rattle.tree_rules.specs.Claim.{network, Claim, infeasible, unknown, CostOver, IsAtLeast}
 use Rattle.tree_rules.specs.Claim.{claimed_cost, ClaimPasses}
 use Rattle.tree_rules.specs.Leaf.{Leaf, dead, clash, refuted, bounded, charged, untried, Scaled}

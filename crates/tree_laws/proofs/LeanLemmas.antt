@@ -5,20 +5,18 @@ use Rattle.std.proofs.Common.{subst, arith}
 use Rattle.std.specs.Prelude.{int_div}
 use Rattle.std.specs.Ordering.{int_eq}
 use Rattle.std.proofs.lemmas.Int.{ints}
-use Rattle.integer_laws.specs.Total.{total}
-use Rattle.integer_laws.proofs.Ring.{ring_z}
-use Rattle.integer_laws.proofs.Order.{mul-le_left, mul-le_right}
-use Rattle.integer_laws.proofs.Totals.{total-le}
-use Rattle.problem_rules.specs.Problem.{Problem}
-use Rattle.problem_rules.specs.Validity.{IsValid}
-use Rattle.pns_rules.specs.Shape.{Shape, shape_of}
-use Rattle.pns_rules.specs.Nodes.{Node}
-use Rattle.pns_rules.specs.Ends.{IsReduced}
-use Rattle.flow_rules.specs.Net.{Net, net_of, million, size_cost}
-use Rattle.flow_rules.specs.Relaxed.{stays, units, unit_cost, IsRelaxed, relaxed_cost}
-use Rattle.flow_rules.proofs.ListedLemmas.{All-listed}
-use Rattle.flow_rules.proofs.NetLemmas.{net_of_valid}
-use Rattle.flow_rules.proofs.RelaxedLemmas.{slope_positive, slope_below, slope_greatest}
+use Rattle.tree_rules.specs.integer_laws.Total.{total}
+use Rattle.tree_rules.proofs.integer_laws.Cited.{ring_z, mul-le_left, mul-le_right, total-le}
+use Rattle.tree_rules.specs.problem_rules.Problem.{Problem}
+use Rattle.tree_rules.specs.problem_rules.Validity.{IsValid}
+use Rattle.tree_rules.specs.pns_rules.Shape.{Shape, shape_of}
+use Rattle.tree_rules.specs.pns_rules.Nodes.{Node}
+use Rattle.tree_rules.specs.pns_rules.Ends.{IsReduced}
+use Rattle.tree_rules.specs.flow_rules.Net.{Net, net_of, million, size_cost}
+use Rattle.tree_rules.specs.flow_rules.Relaxed.{stays, units, unit_cost, IsRelaxed, relaxed_cost}
+use Rattle.tree_rules.proofs.flow_rules.Cited.{All-listed, net_of_valid, slope_positive}
+use Rattle.tree_rules.proofs.flow_rules.Cited.{slope_below}
+use Rattle.tree_rules.proofs.flow_rules.Cited.{slope_greatest}
 use Rattle.tree_rules.specs.Ways.{Way, IsDecision}
 use Rattle.tree_rules.specs.Tree.{branch, leaf, Stands}
 use Rattle.tree_rules.specs.Claim.{Claim, claimed_cost, CostOver, IsAtMost}

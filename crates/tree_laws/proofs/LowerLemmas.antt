@@ -7,14 +7,14 @@ use Rattle.std.specs.Prelude.{int_le, cond}
 use Rattle.std.specs.Int.Signed.{le_z, le_z_yes}
 use Rattle.std.proofs.lemmas.Float.{T_from_true}
 use Rattle.std.proofs.lemmas.Int.{ints, by_lt_z}
-use Rattle.integer_laws.proofs.Ring.{ring_z}
-use Rattle.problem_rules.specs.Problem.{Problem}
-use Rattle.problem_rules.specs.Validity.{IsValid}
-use Rattle.pns_rules.specs.Shape.{shape_of}
-use Rattle.pns_rules.specs.Structure.{InFamily}
-use Rattle.pns_rules.specs.Nodes.{Node}
-use Rattle.flow_rules.specs.Net.{net_of}
-use Rattle.flow_rules.specs.Flows.{cost}
+use Rattle.tree_rules.proofs.integer_laws.Cited.{ring_z}
+use Rattle.tree_rules.specs.problem_rules.Problem.{Problem}
+use Rattle.tree_rules.specs.problem_rules.Validity.{IsValid}
+use Rattle.tree_rules.specs.pns_rules.Shape.{shape_of}
+use Rattle.tree_rules.specs.pns_rules.Structure.{InFamily}
+use Rattle.tree_rules.specs.pns_rules.Nodes.{Node}
+use Rattle.tree_rules.specs.flow_rules.Net.{net_of}
+use Rattle.tree_rules.specs.flow_rules.Flows.{cost}
 use Rattle.tree_rules.specs.Tree.{End, branch, leaf, after_all, below, Stands, EndPasses, Pass}
 use Rattle.tree_rules.specs.Claim.{network, Claim, infeasible, unknown, CostOver, claimed_cost}
 use Rattle.tree_rules.specs.Claim.{ClaimPasses}

@@ -1,7 +1,7 @@
 -- Lists of nodes of which one is as H says, and of which at most one is.
 use Rattle.std.proofs.Common.{◌⊎◌, List, ℕ, [], ◌∷◌, ◌++◌, map, refl, subst, inl, inr}
-use Rattle.number_sets.specs.Options.{IsIn}
-use Rattle.pns_rules.specs.Nodes.{Node}
+use Rattle.tree_rules.specs.number_sets.Options.{IsIn}
+use Rattle.tree_rules.specs.pns_rules.Nodes.{Node}
 
 module _ (H : Node → Type 0) where
   abbrev pub OneHolds : List Node → Type 0

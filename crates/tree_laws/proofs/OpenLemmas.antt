@@ -1,8 +1,8 @@
 -- Trees that pass, whole and partial.
 use Rattle.std.proofs.Common.{◌≡◌, ℕ, zero, suc, true, false, List, [], ◌∷◌, ◌++◌, Option, refl}
-use Rattle.problem_rules.specs.Problem.{Problem}
-use Rattle.pns_rules.specs.Shape.{Shape}
-use Rattle.pns_rules.specs.Nodes.{Node}
+use Rattle.tree_rules.specs.problem_rules.Problem.{Problem}
+use Rattle.tree_rules.specs.pns_rules.Shape.{Shape}
+use Rattle.tree_rules.specs.pns_rules.Nodes.{Node}
 use Rattle.tree_rules.specs.Tree.{End, branch, leaf, TreeNode, after_all, below, Stands, EndPasses}
 use Rattle.tree_rules.specs.Tree.{Pass}
 use Rattle.tree_rules.specs.Claim.{network, Claim, infeasible, unknown, CostOver, ClaimPasses}

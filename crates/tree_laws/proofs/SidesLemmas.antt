@@ -2,11 +2,12 @@
 use Rattle.std.proofs.Common.{◌≡◌, ℕ, zero, suc, Bool, true, false, ◌||◌, ◌==◌, List, [], ◌∷◌, ◌++◌}
 use Rattle.std.proofs.Common.{map, refl, subst, inl, inr}
 use Rattle.std.proofs.lemmas.Bool.{or_cases, both_ways, eqb-true, false_from_ne_true}
-use Rattle.number_sets.specs.Options.{IsIn}
-use Rattle.number_sets.specs.Sets.{has, Avoids}
-use Rattle.pns_rules.specs.Shape.{Shape, IsProper}
-use Rattle.pns_rules.specs.Nodes.{Node, Step, raw, rival, starve, loose, sole, is_free, IsPossible}
-use Rattle.pns_rules.specs.Nodes.{after}
+use Rattle.tree_rules.specs.number_sets.Options.{IsIn}
+use Rattle.tree_rules.specs.number_sets.Sets.{has, Avoids}
+use Rattle.tree_rules.specs.pns_rules.Shape.{Shape, IsProper}
+use Rattle.tree_rules.specs.pns_rules.Nodes.{Node, Step, raw, rival, starve, loose, sole, is_free}
+use Rattle.tree_rules.specs.pns_rules.Nodes.{IsPossible}
+use Rattle.tree_rules.specs.pns_rules.Nodes.{after}
 use Rattle.tree_rules.specs.Ways.{Way, MayBranch, options_at, child_at}
 use Rattle.tree_rules.specs.Tree.{End, branch, leaf, TreeNode, StepsPass, after_all, below, Stands}
 use Rattle.tree_rules.specs.Tree.{EndPasses, Pass}

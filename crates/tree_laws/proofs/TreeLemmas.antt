@@ -1,9 +1,9 @@
 -- At which places the nodes of a recharged tree are.
 use Rattle.std.proofs.Common.{◌≡◌, ℕ, zero, suc, ◌+◌, Bool, true, false, List, [], ◌∷◌, ◌++◌}
 use Rattle.std.proofs.Common.{length, refl, sym, ap, ◌∙◌, subst, true≢false, Option}
-use Rattle.problem_rules.specs.Problem.{Problem}
-use Rattle.pns_rules.specs.Shape.{Shape, shape_of}
-use Rattle.pns_rules.specs.Nodes.{Node}
+use Rattle.tree_rules.specs.problem_rules.Problem.{Problem}
+use Rattle.tree_rules.specs.pns_rules.Shape.{Shape, shape_of}
+use Rattle.tree_rules.specs.pns_rules.Nodes.{Node}
 use Rattle.tree_rules.specs.Ways.{Way}
 use Rattle.tree_rules.specs.Tree.{End, branch, leaf, children, HasChildren, IsForest}
 use Rattle.tree_rules.specs.Tree.{IsTree, after_all, below, Stands, EndPasses, Pass}

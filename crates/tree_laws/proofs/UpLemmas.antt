@@ -2,10 +2,10 @@
 -- more than another.
 use Rattle.std.proofs.Common.{ℕ, Bool, not, ◌&&◌, ◌==◌, List}
 use Rattle.std.proofs.lemmas.Bool.{or_left, or_right}
-use Rattle.number_sets.specs.Sets.{has, Avoids, IsWithin}
-use Rattle.pns_rules.specs.Shape.{Shape, IsProper}
-use Rattle.pns_rules.specs.Nodes.{Node, Step, raw, rival, starve, loose, sole, after}
-use Rattle.pns_rules.proofs.StepLemmas.{steps_keep_families}
+use Rattle.tree_rules.specs.number_sets.Sets.{has, Avoids, IsWithin}
+use Rattle.tree_rules.specs.pns_rules.Shape.{Shape, IsProper}
+use Rattle.tree_rules.specs.pns_rules.Nodes.{Node, Step, raw, rival, starve, loose, sole, after}
+use Rattle.tree_rules.proofs.pns_rules.Cited.{steps_keep_families}
 use Rattle.tree_rules.specs.Ways.{Way, decides, child_at}
 use Rattle.tree_laws.proofs.CoverLemmas.{IsOf}
 use Rattle.tree_laws.proofs.ApartLemmas.{GoesUp}

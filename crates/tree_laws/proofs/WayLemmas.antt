@@ -4,14 +4,13 @@ use Rattle.std.proofs.Common.{◌≡◌, ℕ, ◌<◌, Bool, true, false, not, �
 use Rattle.std.proofs.Common.{refl, sym, subst, inl, inr, arith, eq-eqb}
 use Rattle.std.proofs.lemmas.Bool.{or_left, or_right, or_cases, and_from, and_parts, both_ways}
 use Rattle.std.proofs.lemmas.Bool.{not-true, eqb-true, cases_Bool}
-use Rattle.number_sets.specs.Sets.{has, mask_of, Avoids, IsRising}
-use Rattle.number_sets.specs.Options.{IsIn, IsAscending, IsBelowEach}
-use Rattle.number_sets.proofs.SetLemmas.{same_sets, same_tests}
-use Rattle.pns_rules.specs.Shape.{Shape, IsProper}
-use Rattle.pns_rules.specs.Structure.{InFamily}
-use Rattle.pns_rules.specs.Nodes.{Node, is_free}
-use Rattle.pns_rules.proofs.StepLemmas.{children_cover}
-use Rattle.pns_rules.proofs.OptionLemmas.{options_all, options_ascend}
+use Rattle.tree_rules.specs.number_sets.Sets.{has, mask_of, Avoids, IsRising}
+use Rattle.tree_rules.specs.number_sets.Options.{IsIn, IsAscending, IsBelowEach}
+use Rattle.tree_rules.proofs.number_sets.Cited.{same_sets, same_tests}
+use Rattle.tree_rules.specs.pns_rules.Shape.{Shape, IsProper}
+use Rattle.tree_rules.specs.pns_rules.Structure.{InFamily}
+use Rattle.tree_rules.specs.pns_rules.Nodes.{Node, is_free}
+use Rattle.tree_rules.proofs.pns_rules.Cited.{children_cover, options_all, options_ascend}
 use Rattle.tree_rules.specs.Ways.{Way, at_material, either, MayBranch, decides, options_at}
 use Rattle.tree_rules.specs.Ways.{child_at, children_at}
 

@@ -1,6 +1,6 @@
 -- Plants whose units are no larger than those of another plant, and the same but for that.
 use Rattle.std.specs.Prelude.{◌≡◌, ◌≤ℤ◌, List, [], ◌∷◌}
-use Rattle.problem_rules.specs.Problem.{Problem, OperatingUnit}
+use Rattle.tree_rules.specs.problem_rules.Problem.{Problem, OperatingUnit}
 
 -- the unit v is u, but that its greatest size may be smaller
 pub record IsCappedUnit (u v : OperatingUnit) : Type 0 where

@@ -1,9 +1,9 @@
 -- The laws of capped plants, each the contract of a public function of this crate.
 use Rattle.std.specs.Prelude.{◌≡◌, length}
-use Rattle.problem_rules.specs.Problem.{Problem}
-use Rattle.problem_rules.specs.Validity.{IsValid}
-use Rattle.pns_rules.specs.Shape.{shape_of}
-use Rattle.pns_rules.specs.Nodes.{Node}
+use Rattle.tree_rules.specs.problem_rules.Problem.{Problem}
+use Rattle.tree_rules.specs.problem_rules.Validity.{IsValid}
+use Rattle.tree_rules.specs.pns_rules.Shape.{shape_of}
+use Rattle.tree_rules.specs.pns_rules.Nodes.{Node}
 use Rattle.tree_rules.specs.Tree.{IsTree}
 use Rattle.tree_rules.specs.Claim.{Claim, claimed_cost}
 use Rattle.tree_rules.specs.Leaf.{IsUntried}

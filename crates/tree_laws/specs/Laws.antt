@@ -2,13 +2,13 @@
 use Rattle.std.specs.Prelude.{◌≡◌, ◌⊎◌, ℕ, suc, ◌<◌, ◌≤◌, ◌^◌, Bool, ◌||◌, ◌==◌, List, []}
 use Rattle.std.specs.Prelude.{◌∷◌}
 use Rattle.std.specs.Prelude.{length, Option, Some}
-use Rattle.number_sets.specs.Sets.{listed, Avoids}
-use Rattle.number_sets.specs.Options.{IsIn}
-use Rattle.problem_rules.specs.Problem.{Problem}
-use Rattle.problem_rules.specs.Validity.{IsValid}
-use Rattle.pns_rules.specs.Shape.{Shape, IsProper, shape_of}
-use Rattle.pns_rules.specs.Structure.{IsStructure, IsAllowed, InFamily}
-use Rattle.pns_rules.specs.Nodes.{Node, is_free}
+use Rattle.tree_rules.specs.number_sets.Sets.{listed, Avoids}
+use Rattle.tree_rules.specs.number_sets.Options.{IsIn}
+use Rattle.tree_rules.specs.problem_rules.Problem.{Problem}
+use Rattle.tree_rules.specs.problem_rules.Validity.{IsValid}
+use Rattle.tree_rules.specs.pns_rules.Shape.{Shape, IsProper, shape_of}
+use Rattle.tree_rules.specs.pns_rules.Structure.{IsStructure, IsAllowed, InFamily}
+use Rattle.tree_rules.specs.pns_rules.Nodes.{Node, is_free}
 use Rattle.tree_rules.specs.declared.why.Why.{Why}
 use Rattle.tree_rules.specs.Ways.{Way, either, MayBranch, options_at, child_at}
 use Rattle.tree_rules.specs.Ways.{children_at}

@@ -2,17 +2,18 @@
 use Rattle.std.proofs.Common.{◌≡◌, inl, inr, ℤ, pos, ◌*ℤ◌, ◌≤ℤ◌, ◌<ℤ◌, Bool, true, false, int_lt}
 use Rattle.std.proofs.Common.{Option, Some, None, refl, arith, if◌then◌else◌, subst}
 use Rattle.std.proofs.lemmas.Int.{ints}
-use Rattle.integer_laws.proofs.Order.{mul-le_left, mul-lt_left}
-use Rattle.integer_laws.proofs.Ring.{ring_z}
-use Rattle.problem_rules.specs.Problem.{Problem}
-use Rattle.pns_rules.specs.Nodes.{Node}
-use Rattle.flow_rules.specs.ChargeLeaf.{IsScale, ChargeReaches}
-use Rattle.tree_rules.specs.Claim.{Network, Claim, network, infeasible, unknown, CostOver}
-use Rattle.tree_rules.specs.Claim.{claimed_cost, IsAtLeast, IsFeasible, ClaimPasses}
-use Rattle.tree_rules.specs.Leaf.{Leaf, dead, clash, refuted, bounded, charged, untried, IsClaimed}
-use Rattle.tree_rules.specs.Leaf.{LeafPasses}
-use Rattle.tree_rules.specs.Accepted.{Tree}
-use Rattle.tree_text_rules.specs.Graft.{has_open, claim_of_both}
+use Rattle.tree_text_laws.proofs.integer_laws.Cited.{mul-le_left, mul-lt_left, ring_z}
+use Rattle.tree_text_laws.specs.problem_rules.Problem.{Problem}
+use Rattle.tree_text_laws.specs.pns_rules.Nodes.{Node}
+use Rattle.tree_text_laws.specs.flow_rules.ChargeLeaf.{IsScale, ChargeReaches}
+use Rattle.tree_text_laws.specs.tree_rules.Claim.{Network, Claim, network, infeasible, unknown}
+use Rattle.tree_text_laws.specs.tree_rules.Claim.{CostOver}
+use Rattle.tree_text_laws.specs.tree_rules.Claim.{claimed_cost, IsAtLeast, IsFeasible, ClaimPasses}
+use Rattle.tree_text_laws.specs.tree_rules.Leaf.{Leaf, dead, clash, refuted, bounded, charged}
+use Rattle.tree_text_laws.specs.tree_rules.Leaf.{untried, IsClaimed}
+use Rattle.tree_text_laws.specs.tree_rules.Leaf.{LeafPasses}
+use Rattle.tree_text_laws.specs.tree_rules.Accepted.{Tree}
+use Rattle.tree_text_laws.specs.tree_text_rules.Graft.{has_open, claim_of_both}
 
 -- ---- costs
 

@@ -3,13 +3,14 @@
 use Rattle.std.proofs.Common.{◌≡◌, ◌⊎◌, inl, inr, pos, ◌*ℤ◌, ◌≤ℤ◌, Bool, true, false, int_lt, List}
 use Rattle.std.proofs.Common.{[], ◌∷◌, refl, sym, ap, ◌∙◌, subst, arith, if◌then◌else◌}
 use Rattle.std.proofs.lemmas.Int.{ints}
-use Rattle.problem_rules.specs.Each.{Each}
-use Rattle.problem_rules.specs.Problem.{Problem}
-use Rattle.tree_rules.specs.Claim.{Network, Claim, network, infeasible, unknown, ClaimPasses}
-use Rattle.tree_rules.specs.Accepted.{Tree}
-use Rattle.tree_text_rules.specs.Graft.{has_open, claim_of_both}
-use Rattle.tree_text_rules.specs.Part.{Part}
-use Rattle.tree_text_rules.specs.Several.{AreMerged}
+use Rattle.tree_text_laws.specs.problem_rules.Each.{Each}
+use Rattle.tree_text_laws.specs.problem_rules.Problem.{Problem}
+use Rattle.tree_text_laws.specs.tree_rules.Claim.{Network, Claim, network, infeasible, unknown}
+use Rattle.tree_text_laws.specs.tree_rules.Claim.{ClaimPasses}
+use Rattle.tree_text_laws.specs.tree_rules.Accepted.{Tree}
+use Rattle.tree_text_laws.specs.tree_text_rules.Graft.{has_open, claim_of_both}
+use Rattle.tree_text_laws.specs.tree_text_rules.Part.{Part}
+use Rattle.tree_text_laws.specs.tree_text_rules.Several.{AreMerged}
 use Rattle.tree_parts.specs.Order.{SameCost}
 use Rattle.tree_parts.specs.Splices.{settled}
 use Rattle.tree_parts.proofs.ClaimLemmas.{cost_of, IsNoDearer, at_least_too, same_cost}

@@ -2,16 +2,19 @@
 use Rattle.std.proofs.Common.{◌≡◌, ◌⊎◌, ℕ, zero, suc, ◌+◌, List, [], ◌∷◌, ◌++◌, length, refl, sym}
 use Rattle.std.proofs.Common.{ap, ◌∙◌, subst, inl, inr, arith}
 use Rattle.std.proofs.lemmas.List.{append-nil}
-use Rattle.pns_rules.specs.Shape.{Shape}
-use Rattle.pns_rules.specs.Nodes.{Node}
-use Rattle.tree_rules.specs.Ways.{width}
-use Rattle.tree_rules.specs.Tree.{End, branch, leaf, TreeNode, children, IsForest, IsTree, skip}
-use Rattle.tree_rules.specs.Tree.{roots, StepsPass, after_all, EndPasses, below, Pass}
-use Rattle.tree_rules.specs.Leaf.{Leaf}
-use Rattle.tree_rules.specs.Accepted.{Tree}
-use Rattle.tree_text_rules.specs.Graft.{grafted, graft_at}
-use Rattle.tree_text_rules.specs.OpenLeaves.{IsOpenEnd, StandsOpen}
-use Rattle.tree_parts.proofs.ForestLemmas.{after_all-append, steps-append, forest-append, skip-whole}
+use Rattle.tree_text_laws.specs.pns_rules.Shape.{Shape}
+use Rattle.tree_text_laws.specs.pns_rules.Nodes.{Node}
+use Rattle.tree_text_laws.specs.tree_rules.Ways.{width}
+use Rattle.tree_text_laws.specs.tree_rules.Tree.{End, branch, leaf, TreeNode, children, IsForest}
+use Rattle.tree_text_laws.specs.tree_rules.Tree.{IsTree, skip}
+use Rattle.tree_text_laws.specs.tree_rules.Tree.{roots, StepsPass, after_all, EndPasses, below}
+use Rattle.tree_text_laws.specs.tree_rules.Tree.{Pass}
+use Rattle.tree_text_laws.specs.tree_rules.Leaf.{Leaf}
+use Rattle.tree_text_laws.specs.tree_rules.Accepted.{Tree}
+use Rattle.tree_text_laws.specs.tree_text_rules.Graft.{grafted, graft_at}
+use Rattle.tree_text_laws.specs.tree_text_rules.OpenLeaves.{IsOpenEnd, StandsOpen}
+use Rattle.tree_parts.proofs.ForestLemmas.{after_all-append, steps-append, forest-append}
+use Rattle.tree_parts.proofs.ForestLemmas.{skip-whole}
 use Rattle.tree_parts.proofs.ForestLemmas.{forest_below, end-append, pass-append}
 
 -- node k of the list is an open leaf

@@ -2,13 +2,13 @@
 use Rattle.std.proofs.Common.{◌≡◌, ◌+◌, ◌-◌, ◌<◌, ◌≤◌, ℕ, zero, suc, List, [], ◌∷◌, ◌++◌, length}
 use Rattle.std.proofs.Common.{take, drop, get_or, ap, ◌∙◌, arith, add-one, append_assoc}
 use Rattle.std.proofs.lemmas.List.{length-drop, take_all}
-use Rattle.pns_rules.specs.Shape.{Shape}
-use Rattle.pns_rules.specs.Nodes.{Node}
-use Rattle.tree_rules.specs.Tree.{TreeNode, after_all, below, IsTree}
-use Rattle.tree_rules.specs.Leaf.{Leaf}
-use Rattle.tree_rules.specs.Accepted.{Tree}
-use Rattle.tree_text_rules.specs.Graft.{grafted, graft_at}
-use Rattle.tree_text_rules.specs.OpenLeaves.{StandsOpen}
+use Rattle.tree_text_laws.specs.pns_rules.Shape.{Shape}
+use Rattle.tree_text_laws.specs.pns_rules.Nodes.{Node}
+use Rattle.tree_text_laws.specs.tree_rules.Tree.{TreeNode, after_all, below, IsTree}
+use Rattle.tree_text_laws.specs.tree_rules.Leaf.{Leaf}
+use Rattle.tree_text_laws.specs.tree_rules.Accepted.{Tree}
+use Rattle.tree_text_laws.specs.tree_text_rules.Graft.{grafted, graft_at}
+use Rattle.tree_text_laws.specs.tree_text_rules.OpenLeaves.{StandsOpen}
 
 pub graft_pieces : (k : ℕ) (ts : Tree) (r : TreeNode Leaf) (rs : Tree) (t : TreeNode Leaf)
     → k < length ts → t ≡ get_or ts k t

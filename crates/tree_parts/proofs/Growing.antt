@@ -2,24 +2,25 @@
 use Rattle.std.proofs.Common.{◌≡◌, ◌+◌, ◌<◌, ◌≤◌, ℕ, List, [], ◌∷◌, ◌++◌, length, take, get_or}
 use Rattle.std.proofs.Common.{refl, sym, ap, ◌∙◌, subst, arith, length-append, Result, Ok, Err}
 use Rattle.std.proofs.Common.{IfOk, IfErr}
-use Rattle.problem_rules.specs.Problem.{Problem}
-use Rattle.pns_rules.specs.Shape.{shape_of}
-use Rattle.tree_rules.specs.Tree.{IsTree}
-use Rattle.tree_rules.specs.Claim.{Claim, claimed_cost}
-use Rattle.tree_rules.specs.Accepted.{Tree, first_node, IsPartial}
-use Rattle.tree_text_rules.specs.OpenLeaves.{open_leaves, IsAmong, StandsOpen}
-use Rattle.tree_text_rules.specs.Graft.{claim_of_both}
+use Rattle.tree_text_laws.specs.problem_rules.Problem.{Problem}
+use Rattle.tree_text_laws.specs.pns_rules.Shape.{shape_of}
+use Rattle.tree_text_laws.specs.tree_rules.Tree.{IsTree}
+use Rattle.tree_text_laws.specs.tree_rules.Claim.{Claim, claimed_cost}
+use Rattle.tree_text_laws.specs.tree_rules.Accepted.{Tree, first_node, IsPartial}
+use Rattle.tree_text_laws.specs.tree_text_rules.OpenLeaves.{open_leaves, IsAmong, StandsOpen}
+use Rattle.tree_text_laws.specs.tree_text_rules.Graft.{claim_of_both}
 use Rattle.tree_parts.specs.Laws.{OpenLeavesStand, GraftIsTree, GraftIsPartial}
 use Rattle.tree_parts.specs.Splices.{Splice, spliced, AreRising, IsPut, ArePut, settled, cheapest}
 use Rattle.tree_parts.proofs.SpliceLemmas.{IsIn, put_in, rising_more, put_more, first_claims}
 use Rattle.tree_parts.proofs.SpliceLemmas.{next_claims}
-use Rattle.tree_text_rules.specs.Part as parts
-use Rattle.tree_text_rules.specs.Part.{start_of}
-use Rattle.tree_text_rules.specs.Merge.{IsMerged, IsLeafOf, MergeFails}
-use Rattle.tree_text_rules.specs.declared.merge_fault.MergeFault.{MergeFault}
-use Rattle.tree_text_rules.specs.declared.merge_fault.MergeFault.TheVariants.{NoLeaf, Memory}
-use Rattle.tree_text_rules.specs.Several.{AreMerged, StopsAt}
-use Rattle.branch_tree.specs.View.{claim_of}
+use Rattle.tree_text_laws.specs.tree_text_rules.Part as parts
+use Rattle.tree_text_laws.specs.tree_text_rules.Part.{start_of}
+use Rattle.tree_text_laws.specs.tree_text_rules.Merge.{IsMerged, IsLeafOf, MergeFails}
+use Rattle.tree_text_laws.specs.tree_text_rules.declared.merge_fault.MergeFault.{MergeFault}
+use Rattle.tree_text_laws.specs.tree_text_rules.declared.merge_fault.MergeFault.TheVariants.{NoLeaf}
+use Rattle.tree_text_laws.specs.tree_text_rules.declared.merge_fault.MergeFault.TheVariants.{Memory}
+use Rattle.tree_text_laws.specs.tree_text_rules.Several.{AreMerged, StopsAt}
+use Rattle.tree_text_laws.specs.branch_tree.View.{claim_of}
 use Rattle.tree_parts.specs.declared.several.Merged.{Merged}
 use Rattle.tree_parts.specs.declared.several.PartFault.{PartFault}
 use Rattle.tree_parts.specs.declared.waiting.Waiting.{Waiting}

@@ -4,14 +4,14 @@ use Rattle.std.proofs.Common.{get_or, refl, sym, ap, ◌∙◌, subst, add-one, 
 use Rattle.std.proofs.Common.{take-add, length-drop}
 use Rattle.std.proofs.Math.Seq.{take-suc, take-length}
 use Rattle.std.proofs.lemmas.List.{get_or-drop, take_all}
-use Rattle.problem_rules.specs.Each.{Each}
-use Rattle.problem_rules.specs.Problem.{Problem}
-use Rattle.tree_rules.specs.Claim.{Claim}
-use Rattle.tree_rules.specs.Accepted.{Tree}
-use Rattle.tree_text_rules.specs.Part.{Part}
-use Rattle.tree_text_rules.specs.Merge.{IsMerged}
-use Rattle.tree_text_rules.specs.Several.{AreMerged, StopsAt}
-use Rattle.tree_text_rules.specs.declared.merge_fault.MergeFault.{MergeFault}
+use Rattle.tree_text_laws.specs.problem_rules.Each.{Each}
+use Rattle.tree_text_laws.specs.problem_rules.Problem.{Problem}
+use Rattle.tree_text_laws.specs.tree_rules.Claim.{Claim}
+use Rattle.tree_text_laws.specs.tree_rules.Accepted.{Tree}
+use Rattle.tree_text_laws.specs.tree_text_rules.Part.{Part}
+use Rattle.tree_text_laws.specs.tree_text_rules.Merge.{IsMerged}
+use Rattle.tree_text_laws.specs.tree_text_rules.Several.{AreMerged, StopsAt}
+use Rattle.tree_text_laws.specs.tree_text_rules.declared.merge_fault.MergeFault.{MergeFault}
 
 -- ---- the parts from a place on
 

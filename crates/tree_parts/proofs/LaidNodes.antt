@@ -3,17 +3,17 @@ use Rattle.std.proofs.Common.{◌≡◌, ◌+◌, ◌<◌, ◌≤◌, ℕ, zero,
 use Rattle.std.proofs.Common.{reverse, take, drop, get_or, refl, sym, ap, ◌∙◌, subst, arith}
 use Rattle.std.proofs.Common.{length-append, append_assoc, add-one, take-append-drop}
 use Rattle.std.proofs.lemmas.List.{append-nil, reverse-append, map-append}
-use Rattle.tree_rules.specs.Tree.{TreeNode}
-use Rattle.tree_rules.specs.Leaf.{Leaf}
-use Rattle.tree_rules.specs.Accepted.{Tree}
-use Rattle.tree_text_rules.specs.Graft.{grafted, graft_at}
+use Rattle.tree_text_laws.specs.tree_rules.Tree.{TreeNode}
+use Rattle.tree_text_laws.specs.tree_rules.Leaf.{Leaf}
+use Rattle.tree_text_laws.specs.tree_rules.Accepted.{Tree}
+use Rattle.tree_text_laws.specs.tree_text_rules.Graft.{grafted, graft_at}
 use Rattle.tree_parts.specs.Splices.{Splice, spliced, AllBelow, AllAbove, AreRising, ArePut}
-use Rattle.problem_rules.specs.Problem.{Problem}
-use Rattle.pns_rules.specs.Shape.{shape_of}
-use Rattle.pns_rules.specs.Nodes.{Node}
-use Rattle.tree_text_rules.specs.OpenLeaves.{OpenAt, IsAmong}
-use Rattle.tree_text_rules.specs.Part as parts
-use Rattle.tree_text_rules.specs.Part.{start_of}
+use Rattle.tree_text_laws.specs.problem_rules.Problem.{Problem}
+use Rattle.tree_text_laws.specs.pns_rules.Shape.{shape_of}
+use Rattle.tree_text_laws.specs.pns_rules.Nodes.{Node}
+use Rattle.tree_text_laws.specs.tree_text_rules.OpenLeaves.{OpenAt, IsAmong}
+use Rattle.tree_text_laws.specs.tree_text_rules.Part as parts
+use Rattle.tree_text_laws.specs.tree_text_rules.Part.{start_of}
 use Rattle.tree_parts.specs.Waiting.{AreWithin, splice_of, splices_of, IsOneMore}
 use Rattle.tree_parts.proofs.GraftLists.{stands_below, some_nodes}
 use Rattle.tree_parts.specs.declared.waiting.Waiting.{Waiting}

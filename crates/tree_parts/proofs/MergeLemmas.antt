@@ -5,17 +5,17 @@ use Rattle.std.proofs.Common.{refl, sym, ap, ◌∙◌, subst, inl, inr, ◌⊎�
 use Rattle.std.proofs.lemmas.Int.{ints}
 use Rattle.std.proofs.lemmas.List.{map-append}
 use Rattle.std.proofs.Math.Seq.{take-suc, take-length}
-use Rattle.number_sets.specs.Sets.{has, IsSet}
-use Rattle.number_sets.proofs.SetLemmas.{same_sets}
-use Rattle.pns_rules.specs.Nodes as rules
-use Rattle.unit_sets.specs.declared.node.Node.{Node}
-use Rattle.pgraph.specs.View.{node_of}
-use Rattle.tree_rules.specs.Tree.{TreeNode}
-use Rattle.tree_rules.specs.Leaf.{Leaf}
-use Rattle.tree_rules.specs.Claim.{Network}
-use Rattle.tree_rules.specs.Accepted.{Tree}
-use Rattle.tree_text_rules.specs.OpenLeaves.{OpenAt, IsAmong}
-use Rattle.tree_text_rules.specs.Graft.{is_open, has_open, cheaper}
+use Rattle.tree_text_laws.specs.number_sets.Sets.{has, IsSet}
+use Rattle.tree_text_laws.proofs.number_sets.Cited.{same_sets}
+use Rattle.tree_text_laws.specs.pns_rules.Nodes as rules
+use Rattle.tree_text_laws.specs.unit_sets.declared.node.Node.{Node}
+use Rattle.tree_text_laws.specs.pgraph.View.{node_of}
+use Rattle.tree_text_laws.specs.tree_rules.Tree.{TreeNode}
+use Rattle.tree_text_laws.specs.tree_rules.Leaf.{Leaf}
+use Rattle.tree_text_laws.specs.tree_rules.Claim.{Network}
+use Rattle.tree_text_laws.specs.tree_rules.Accepted.{Tree}
+use Rattle.tree_text_laws.specs.tree_text_rules.OpenLeaves.{OpenAt, IsAmong}
+use Rattle.tree_text_laws.specs.tree_text_rules.Graft.{is_open, has_open, cheaper}
 use Rattle.cert_check.specs.declared.open_leaf.OpenLeaf.{OpenLeaf}
 use Rattle.cert_check.specs.OpenLeaves.{leaf_at, leaves_at}
 

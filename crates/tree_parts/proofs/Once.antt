@@ -1,19 +1,23 @@
 -- A text of a part is read in one way.
 use Rattle.std.proofs.Common.{◌≡◌, ◌≤◌, Bool, true, false, ℕ, List, [], ◌∷◌, length, codes, Result}
 use Rattle.std.proofs.Common.{Ok, Err, refl, sym, ap, ◌∙◌, subst, inl, inr, ◌⊎◌}
-use Rattle.problem_rules.specs.Problem.{Problem}
-use Rattle.pns_rules.specs.Tokens.{token_of}
-use Rattle.structure_list.proofs.TokenLemmas.{token_one}
-use Rattle.tree_text_rules.specs.Line.{Token, Line, tokens_of, lines_of}
-use Rattle.tree_text_rules.specs.Read.{Fault, rest_taken}
-use Rattle.tree_text_rules.specs.declared.TreeKind.{TreeKind}
-use Rattle.tree_text_rules.specs.declared.TreeKind.TheVariants.{FileType, BadLine, UnknownName}
-use Rattle.tree_text_rules.specs.declared.TreeKind.TheVariants.{BadNumber, Order, WrongCount}
-use Rattle.tree_text_rules.specs.declared.TreeKind.TheVariants.{MoreNodes, FewerNodes, AfterEnd}
-use Rattle.tree_text_rules.specs.Part.{Part}
+use Rattle.tree_text_laws.specs.problem_rules.Problem.{Problem}
+use Rattle.tree_text_laws.specs.pns_rules.Tokens.{token_of}
+use Rattle.cert_check.proofs.structure_list.Cited.{token_one}
+use Rattle.tree_text_laws.specs.tree_text_rules.Line.{Token, Line, tokens_of, lines_of}
+use Rattle.tree_text_laws.specs.tree_text_rules.Read.{Fault, rest_taken}
+use Rattle.tree_text_laws.specs.tree_text_rules.declared.TreeKind.{TreeKind}
+use Rattle.tree_text_laws.specs.tree_text_rules.declared.TreeKind.TheVariants.{FileType, BadLine}
+use Rattle.tree_text_laws.specs.tree_text_rules.declared.TreeKind.TheVariants.{UnknownName}
+use Rattle.tree_text_laws.specs.tree_text_rules.declared.TreeKind.TheVariants.{BadNumber, Order}
+use Rattle.tree_text_laws.specs.tree_text_rules.declared.TreeKind.TheVariants.{WrongCount}
+use Rattle.tree_text_laws.specs.tree_text_rules.declared.TreeKind.TheVariants.{MoreNodes}
+use Rattle.tree_text_laws.specs.tree_text_rules.declared.TreeKind.TheVariants.{FewerNodes, AfterEnd}
+use Rattle.tree_text_laws.specs.tree_text_rules.Part.{Part}
 use Rattle.tree_parts.proofs.Tokens.{wider}
-use Rattle.tree_text_rules.specs.PartRead.{PartReads, LinesRead, StartReads, FirstLine, BehindType, SetLine}
-use Rattle.tree_text_rules.specs.PartRead.{is_file_type, with_start}
+use Rattle.tree_text_laws.specs.tree_text_rules.PartRead.{PartReads, LinesRead, StartReads}
+use Rattle.tree_text_laws.specs.tree_text_rules.PartRead.{FirstLine, BehindType, SetLine}
+use Rattle.tree_text_laws.specs.tree_text_rules.PartRead.{is_file_type, with_start}
 
 module _ (p : Problem) (few : length p.units ≤ 128) where
   -- ---- a line of a word and a set

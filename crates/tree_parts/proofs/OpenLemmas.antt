@@ -1,16 +1,18 @@
 -- The list of the open leaves, with their places; and the laws of grafts.
 use Rattle.std.proofs.Common.{◌≡◌, ◌⊎◌, ℕ, zero, suc, ◌+◌, true, List, [], ◌∷◌, ◌++◌, refl, sym, ap}
 use Rattle.std.proofs.Common.{subst, inl, inr, arith}
-use Rattle.pns_rules.specs.Shape.{Shape, shape_of}
-use Rattle.pns_rules.specs.Nodes.{Node}
-use Rattle.tree_rules.specs.Tree.{End, branch, leaf, after_all, below, Pass}
-use Rattle.tree_rules.specs.Claim.{claimed_cost}
-use Rattle.tree_rules.specs.Leaf.{Leaf, dead, clash, refuted, bounded, charged, untried, LeafPasses}
-use Rattle.tree_rules.specs.Accepted.{Tree}
-use Rattle.tree_laws.proofs.OpenLemmas.{passes_too}
-use Rattle.tree_text_rules.specs.OpenLeaves.{OpenAt, open_here, open_leaves, IsAmong, IsOpenEnd}
-use Rattle.tree_text_rules.specs.OpenLeaves.{StandsOpen}
-use Rattle.tree_text_rules.specs.Graft.{graft_at, claim_of_both}
+use Rattle.tree_text_laws.specs.pns_rules.Shape.{Shape, shape_of}
+use Rattle.tree_text_laws.specs.pns_rules.Nodes.{Node}
+use Rattle.tree_text_laws.specs.tree_rules.Tree.{End, branch, leaf, after_all, below, Pass}
+use Rattle.tree_text_laws.specs.tree_rules.Claim.{claimed_cost}
+use Rattle.tree_text_laws.specs.tree_rules.Leaf.{Leaf, dead, clash, refuted, bounded, charged}
+use Rattle.tree_text_laws.specs.tree_rules.Leaf.{untried, LeafPasses}
+use Rattle.tree_text_laws.specs.tree_rules.Accepted.{Tree}
+use Rattle.cert_check.proofs.tree_laws.Cited.{passes_too}
+use Rattle.tree_text_laws.specs.tree_text_rules.OpenLeaves.{OpenAt, open_here, open_leaves, IsAmong}
+use Rattle.tree_text_laws.specs.tree_text_rules.OpenLeaves.{IsOpenEnd}
+use Rattle.tree_text_laws.specs.tree_text_rules.OpenLeaves.{StandsOpen}
+use Rattle.tree_text_laws.specs.tree_text_rules.Graft.{graft_at, claim_of_both}
 use Rattle.tree_parts.specs.Laws.{OpenLeavesStand, GraftIsTree, GraftIsPartial}
 use Rattle.tree_parts.proofs.ClaimLemmas.{IsBoth, both_claims}
 use Rattle.tree_parts.proofs.GraftLemmas.{stands_open, tree-graft, passes-graft}

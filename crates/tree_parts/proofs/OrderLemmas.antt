@@ -3,25 +3,23 @@ use Rattle.std.proofs.Common.{◌≡◌, ℕ, zero, suc, ◌+◌, ◌<◌, true,
 use Rattle.std.proofs.Common.{sym, ap, ◌∙◌, subst, inl, inr}
 use Rattle.std.proofs.lemmas.Bool.{cases_order}
 use Rattle.std.proofs.lemmas.List.Sorted.{IsPermutation-to_front}
-use Rattle.problem_rules.specs.Each.{Each}
-use Rattle.problem_rules.specs.Problem.{Problem}
-use Rattle.problem_rules.specs.Validity.{IsValid}
-use Rattle.pns_rules.specs.Shape.{Shape, shape_of}
-use Rattle.pns_rules.specs.Nodes.{Node}
-use Rattle.pns_rules.proofs.ProperLemmas.{proper_if_valid}
-use Rattle.tree_rules.specs.Tree.{End, leaf, IsTree, after_all, below, Stands, Pass}
-use Rattle.tree_rules.specs.Claim.{Claim, claimed_cost}
-use Rattle.tree_rules.specs.Leaf.{Leaf, untried, LeafPasses}
-use Rattle.tree_rules.specs.Accepted.{Tree, first_node, IsPartial}
-use Rattle.tree_laws.proofs.ApartLemmas.{leaves_apart}
-use Rattle.tree_laws.proofs.OpenLemmas.{passes_too}
-use Rattle.tree_laws.proofs.SidesLemmas.{stands_apart}
-use Rattle.tree_laws.proofs.UpLemmas.{IsOver, over_goes_up}
-use Rattle.tree_text_rules.specs.Graft.{graft_at, claim_of_both}
-use Rattle.tree_text_rules.specs.Part.{Part, start_of}
-use Rattle.tree_text_rules.specs.Merge.{IsLeafOf, IsMerged}
-use Rattle.tree_text_rules.specs.OpenLeaves.{StandsOpen}
-use Rattle.tree_text_rules.specs.Several.{AreMerged}
+use Rattle.tree_text_laws.specs.problem_rules.Each.{Each}
+use Rattle.tree_text_laws.specs.problem_rules.Problem.{Problem}
+use Rattle.tree_text_laws.specs.problem_rules.Validity.{IsValid}
+use Rattle.tree_text_laws.specs.pns_rules.Shape.{Shape, shape_of}
+use Rattle.tree_text_laws.specs.pns_rules.Nodes.{Node}
+use Rattle.tree_text_laws.proofs.pns_rules.Cited.{proper_if_valid}
+use Rattle.tree_text_laws.specs.tree_rules.Tree.{End, leaf, IsTree, after_all, below, Stands, Pass}
+use Rattle.tree_text_laws.specs.tree_rules.Claim.{Claim, claimed_cost}
+use Rattle.tree_text_laws.specs.tree_rules.Leaf.{Leaf, untried, LeafPasses}
+use Rattle.tree_text_laws.specs.tree_rules.Accepted.{Tree, first_node, IsPartial}
+use Rattle.cert_check.proofs.tree_laws.Cited.{leaves_apart, passes_too, stands_apart, IsOver}
+use Rattle.cert_check.proofs.tree_laws.Cited.{over_goes_up}
+use Rattle.tree_text_laws.specs.tree_text_rules.Graft.{graft_at, claim_of_both}
+use Rattle.tree_text_laws.specs.tree_text_rules.Part.{Part, start_of}
+use Rattle.tree_text_laws.specs.tree_text_rules.Merge.{IsLeafOf, IsMerged}
+use Rattle.tree_text_laws.specs.tree_text_rules.OpenLeaves.{StandsOpen}
+use Rattle.tree_text_laws.specs.tree_text_rules.Several.{AreMerged}
 use Rattle.tree_parts.specs.Order.{StartApart, OthersStayOpen, EitherOrder, AnyOrder, EachOrder}
 use Rattle.tree_parts.proofs.GraftLemmas.{passes-graft}
 use Rattle.tree_parts.proofs.OpenLemmas.{graft_is_tree, graft_is_partial}

@@ -1,16 +1,17 @@
 -- The part that the lines of a text stand for, or its first fault after the first set.
 use Rattle.std.proofs.Common.{◌≡◌, ℕ, suc, true, List, [], ◌∷◌, codes, Result, Err, sym, ap, ◌∙◌}
 use Rattle.std.proofs.Common.{subst, inl, inr}
-use Rattle.problem_rules.specs.Problem.{Problem}
-use Rattle.tree_text_rules.specs.Line.{Line, lines_of}
-use Rattle.tree_text_rules.specs.Read.{Fault, Certificate, rest_taken}
-use Rattle.tree_text_rules.specs.declared.TreeKind.{TreeKind}
-use Rattle.text_lines.specs.Tells.{Tells}
-use Rattle.text_lines.specs.declared.fault.TextFault.{TextFault}
-use Rattle.text_lines.specs.declared.fault.TextFault.TheVariants.{At, Memory}
-use Rattle.tree_text_rules.specs.Part.{Part}
-use Rattle.tree_text_rules.specs.PartRead.{SetLine, FirstLine, StartReads, BehindType, LinesRead, PartReads}
-use Rattle.tree_text_rules.specs.PartRead.{is_file_type, with_start}
+use Rattle.tree_text_laws.specs.problem_rules.Problem.{Problem}
+use Rattle.tree_text_laws.specs.tree_text_rules.Line.{Line, lines_of}
+use Rattle.tree_text_laws.specs.tree_text_rules.Read.{Fault, Certificate, rest_taken}
+use Rattle.tree_text_laws.specs.tree_text_rules.declared.TreeKind.{TreeKind}
+use Rattle.tree_reading.specs.text_lines.Tells.{Tells}
+use Rattle.tree_reading.specs.text_lines.declared.fault.TextFault.{TextFault}
+use Rattle.tree_reading.specs.text_lines.declared.fault.TextFault.TheVariants.{At, Memory}
+use Rattle.tree_text_laws.specs.tree_text_rules.Part.{Part}
+use Rattle.tree_text_laws.specs.tree_text_rules.PartRead.{SetLine, FirstLine, StartReads}
+use Rattle.tree_text_laws.specs.tree_text_rules.PartRead.{BehindType, LinesRead, PartReads}
+use Rattle.tree_text_laws.specs.tree_text_rules.PartRead.{is_file_type, with_start}
 use Rattle.tree_parts.specs.Lines.{IsTaken, HasKind, IsFaultAt}
 use Rattle.tree_parts.specs.Tells.{TellsPart}
 

@@ -3,7 +3,7 @@ use Rattle.std.proofs.Common.{◌≡◌, ℕ, zero, suc, ◌<◌, List, [], ◌�
 use Rattle.std.proofs.Common.{IsPermutation, ap, subst, arith}
 use Rattle.std.specs.Prelude.{swap}
 use Rattle.std.proofs.lemmas.List.Sorted.{IsPermutation-keeps}
-use Rattle.problem_rules.specs.Each.{Each}
+use Rattle.tree_text_laws.specs.problem_rules.Each.{Each}
 
 pub data Reorders {X : Type 0} : List X → List X → Type 0 where
   stay : {xs : List X} → Reorders xs xs

@@ -1,10 +1,10 @@
 -- Units of a set that make a raw material.
 use Rattle.std.proofs.Common.{◌≡◌, ◌↔◌, ◌<◌, ℕ, Bool, true, ◌&&◌, List, ap, sym, ◌∙◌}
 use Rattle.std.proofs.lemmas.Bool.{and_parts, and_from}
-use Rattle.number_sets.specs.Sets.{has, Avoids}
-use Rattle.number_sets.proofs.SetLemmas.{any_below-from, any_below-some}
-use Rattle.pns_rules.specs.Shape.{Shape}
-use Rattle.pns_rules.specs.Structure.{is_made}
+use Rattle.tree_text_laws.specs.number_sets.Sets.{has, Avoids}
+use Rattle.tree_text_laws.proofs.number_sets.Cited.{any_below-from, any_below-some}
+use Rattle.tree_text_laws.specs.pns_rules.Shape.{Shape}
+use Rattle.tree_text_laws.specs.pns_rules.Structure.{is_made}
 
 pub no_raw_made : (g : Shape) (set made raws : List ℕ) → has made ≡ is_made g (has set)
     → has raws ≡ g.raw → ((u : ℕ) → has set u ≡ true → u < g.units)

@@ -4,16 +4,17 @@ use Rattle.std.proofs.Common.{◌≡◌, ℕ, zero, suc, ◌+◌, ◌<◌, ◌�
 use Rattle.std.proofs.Common.{List, [], ◌∷◌, ◌++◌, length, Option, refl, sym, ap, ◌∙◌, subst, arith}
 use Rattle.std.proofs.Common.{append_assoc}
 use Rattle.std.proofs.lemmas.List.{append-nil}
-use Rattle.problem_rules.specs.Problem.{Problem}
-use Rattle.pns_rules.specs.Shape.{Shape, shape_of}
-use Rattle.pns_rules.specs.Nodes.{Node}
-use Rattle.tree_rules.specs.Tree.{End, leaf, TreeNode, IsForest, IsTree, after_all, below, Stands}
-use Rattle.tree_rules.specs.Tree.{Pass}
-use Rattle.tree_rules.specs.Claim.{CostOver, Claim, network, infeasible, unknown}
-use Rattle.tree_rules.specs.Leaf.{Leaf, untried, LeafPasses}
-use Rattle.tree_rules.specs.Accepted.{Tree}
-use Rattle.tree_text_rules.specs.Graft.{grafted, graft_at, has_open, claim_of_both}
-use Rattle.tree_text_rules.specs.OpenLeaves.{StandsOpen}
+use Rattle.tree_text_laws.specs.problem_rules.Problem.{Problem}
+use Rattle.tree_text_laws.specs.pns_rules.Shape.{Shape, shape_of}
+use Rattle.tree_text_laws.specs.pns_rules.Nodes.{Node}
+use Rattle.tree_text_laws.specs.tree_rules.Tree.{End, leaf, TreeNode, IsForest, IsTree, after_all}
+use Rattle.tree_text_laws.specs.tree_rules.Tree.{below, Stands}
+use Rattle.tree_text_laws.specs.tree_rules.Tree.{Pass}
+use Rattle.tree_text_laws.specs.tree_rules.Claim.{CostOver, Claim, network, infeasible, unknown}
+use Rattle.tree_text_laws.specs.tree_rules.Leaf.{Leaf, untried, LeafPasses}
+use Rattle.tree_text_laws.specs.tree_rules.Accepted.{Tree}
+use Rattle.tree_text_laws.specs.tree_text_rules.Graft.{grafted, graft_at, has_open, claim_of_both}
+use Rattle.tree_text_laws.specs.tree_text_rules.OpenLeaves.{StandsOpen}
 use Rattle.tree_parts.specs.Splices.{Splice, spliced, AllBelow, AllAbove, AreRising, IsPut, ArePut}
 use Rattle.tree_parts.specs.Splices.{settled, cheapest}
 use Rattle.tree_parts.proofs.ForestLemmas.{after_all-append, forest_below}

@@ -5,28 +5,30 @@ use Rattle.std.specs.List.{slice_split}
 use Rattle.std.specs.Str.{bytes_eq}
 use Rattle.std.proofs.lemmas.Bool.{and_parts}
 use Rattle.std.proofs.lemmas.Slice.Eq.{bytes_eq-Decides}
-use Rattle.text_rules.specs.Canonical.{joined}
-use Rattle.text_laws.proofs.Cuts.{split_at}
-use Rattle.text_lines.proofs.Cutting.{parts_some}
-use Rattle.tree_reading.proofs.Cutting.{more_pieces}
-use Rattle.problem_rules.specs.Each.{Each}
-use Rattle.problem_rules.specs.Problem.{Problem}
-use Rattle.problem_rules.specs.Validity.{IsValid}
-use Rattle.pns_rules.specs.Tokens.{token_of}
-use Rattle.tree_text_rules.specs.Line as trees
-use Rattle.tree_text_rules.specs.Line.{Token, Line, is_feed, lines_from, lines_of}
-use Rattle.tree_text_rules.specs.Read.{Fault, Certificate, rest_taken, lines_taken}
-use Rattle.tree_text_rules.specs.Spelling.{rest_lines, line_text, text_of, tree_text}
+use Rattle.tree_text_laws.specs.text_rules.Canonical.{joined}
+use Rattle.tree_text_laws.proofs.text_laws.Cited.{split_at}
+use Rattle.tree_reading.proofs.text_lines.Cited.{parts_some}
+use Rattle.tree_reading.proofs.Cited.{more_pieces}
+use Rattle.tree_text_laws.specs.problem_rules.Each.{Each}
+use Rattle.tree_text_laws.specs.problem_rules.Problem.{Problem}
+use Rattle.tree_text_laws.specs.problem_rules.Validity.{IsValid}
+use Rattle.tree_text_laws.specs.pns_rules.Tokens.{token_of}
+use Rattle.tree_text_laws.specs.tree_text_rules.Line as trees
+use Rattle.tree_text_laws.specs.tree_text_rules.Line.{Token, Line, is_feed, lines_from, lines_of}
+use Rattle.tree_text_laws.specs.tree_text_rules.Read.{Fault, Certificate, rest_taken, lines_taken}
+use Rattle.tree_text_laws.specs.tree_text_rules.Spelling.{rest_lines, line_text, text_of, tree_text}
 use Rattle.tree_text_laws.specs.Codes.{line_of, IsToken}
-use Rattle.tree_text_laws.proofs.Pieces.{text_back, HasNoFeed}
-use Rattle.tree_text_laws.proofs.Said.{no_feed, tokens_said, formed_said, line_from}
+use Rattle.tree_text_laws.proofs.Cited.{text_back, HasNoFeed, no_feed, tokens_said, formed_said}
+use Rattle.tree_text_laws.proofs.Cited.{line_from}
 use Rattle.tree_text_laws.specs.Fits as fits
 use Rattle.tree_text_laws.specs.Laws.{RestsAreRead, SpelledTextsRead}
-use Rattle.tree_text_rules.specs.Part.{Part}
-use Rattle.tree_text_rules.specs.PartRead as reads
-use Rattle.tree_text_rules.specs.PartRead.{PartReads, LinesRead, StartReads, BehindType, IsFormedAs}
-use Rattle.tree_text_rules.specs.PartRead.{with_start, is_file_type}
-use Rattle.tree_text_rules.specs.PartSpelling.{file_type, set_line, part_text_lines, part_text}
+use Rattle.tree_text_laws.specs.tree_text_rules.Part.{Part}
+use Rattle.tree_text_laws.specs.tree_text_rules.PartRead as reads
+use Rattle.tree_text_laws.specs.tree_text_rules.PartRead.{PartReads, LinesRead, StartReads}
+use Rattle.tree_text_laws.specs.tree_text_rules.PartRead.{BehindType, IsFormedAs}
+use Rattle.tree_text_laws.specs.tree_text_rules.PartRead.{with_start, is_file_type}
+use Rattle.tree_text_laws.specs.tree_text_rules.PartSpelling.{file_type, set_line, part_text_lines}
+use Rattle.tree_text_laws.specs.tree_text_rules.PartSpelling.{part_text}
 use Rattle.tree_parts.specs.PartLaws.{certificate_of, Fits, IsSpelled}
 use Rattle.tree_parts.proofs.Tokens.{set_is_token}
 

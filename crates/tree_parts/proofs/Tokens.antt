@@ -6,10 +6,10 @@ use Rattle.std.specs.List.{list_any}
 use Rattle.std.proofs.lemmas.Bool.{ne_eqb, or_from}
 use Rattle.std.proofs.lemmas.Bool.Decides.{nat_tests}
 use Rattle.std.proofs.lemmas.Str.{IsUtf8-from_ascii}
-use Rattle.number_sets.specs.Sets.{IsSet}
-use Rattle.number_sets.proofs.SetLemmas.{AreBelow-higher}
-use Rattle.pns_rules.specs.Tokens.{digit, token_of, AreDigits}
-use Rattle.structure_list.proofs.TokenLemmas.{token_one, token_has_form}
+use Rattle.tree_text_laws.specs.number_sets.Sets.{IsSet}
+use Rattle.tree_text_laws.proofs.number_sets.Cited.{AreBelow-higher}
+use Rattle.tree_text_laws.specs.pns_rules.Tokens.{digit, token_of, AreDigits}
+use Rattle.cert_check.proofs.structure_list.Cited.{token_one, token_has_form}
 use Rattle.tree_text_laws.specs.Codes.{IsToken}
 
 -- ---- sets

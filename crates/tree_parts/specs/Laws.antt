@@ -1,13 +1,14 @@
 -- Laws of the parts of a tree, each the contract of a public function of this crate.
 use Rattle.std.specs.Prelude.{ℕ, List, [], ◌∷◌, ◌↔◌}
-use Rattle.problem_rules.specs.Problem.{Problem}
-use Rattle.pns_rules.specs.Shape.{Shape, shape_of}
-use Rattle.pns_rules.specs.Nodes.{Node}
-use Rattle.tree_rules.specs.Tree.{IsTree}
-use Rattle.tree_rules.specs.Claim.{Claim}
-use Rattle.tree_rules.specs.Accepted.{Tree, IsPartial}
-use Rattle.tree_text_rules.specs.OpenLeaves.{OpenAt, open_leaves, IsAmong, StandsOpen}
-use Rattle.tree_text_rules.specs.Graft.{graft_at, claim_of_both}
+use Rattle.tree_text_laws.specs.problem_rules.Problem.{Problem}
+use Rattle.tree_text_laws.specs.pns_rules.Shape.{Shape, shape_of}
+use Rattle.tree_text_laws.specs.pns_rules.Nodes.{Node}
+use Rattle.tree_text_laws.specs.tree_rules.Tree.{IsTree}
+use Rattle.tree_text_laws.specs.tree_rules.Claim.{Claim}
+use Rattle.tree_text_laws.specs.tree_rules.Accepted.{Tree, IsPartial}
+use Rattle.tree_text_laws.specs.tree_text_rules.OpenLeaves.{OpenAt, open_leaves, IsAmong}
+use Rattle.tree_text_laws.specs.tree_text_rules.OpenLeaves.{StandsOpen}
+use Rattle.tree_text_laws.specs.tree_text_rules.Graft.{graft_at, claim_of_both}
 
 -- ---- open leaves
 

@@ -1,10 +1,10 @@
 -- A line of a text that is judged when it is reached.
 use Rattle.std.specs.Prelude.{◌≡◌, ℕ, List, [], ◌∷◌, Result, Ok, Err}
-use Rattle.tree_text_rules.specs.Line.{Line}
-use Rattle.tree_text_rules.specs.declared.TreeKind.{TreeKind}
-use Rattle.tree_text_rules.specs.declared.TreeKind.TheVariants.{BadLine}
-use Rattle.text_lines.specs.declared.fault.TextFault.{TextFault}
-use Rattle.text_lines.specs.declared.fault.TextFault.TheVariants.{At, Memory}
+use Rattle.tree_text_laws.specs.tree_text_rules.Line.{Line}
+use Rattle.tree_text_laws.specs.tree_text_rules.declared.TreeKind.{TreeKind}
+use Rattle.tree_text_laws.specs.tree_text_rules.declared.TreeKind.TheVariants.{BadLine}
+use Rattle.tree_reading.specs.text_lines.declared.fault.TextFault.{TextFault}
+use Rattle.tree_reading.specs.text_lines.declared.fault.TextFault.TheVariants.{At, Memory}
 
 -- the first of the lines stands for the set, and those after it are left
 pub record IsTaken (Judged : Line → Result (List ℕ) TreeKind → Type 0) (lines : List Line)

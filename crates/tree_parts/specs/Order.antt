@@ -1,18 +1,18 @@
 -- Parts that are put back in any order make the same tree, and what is claimed of it costs the
 -- same. The networks may differ if two cost the same.
 use Rattle.std.specs.Prelude.{◌≡◌, ℕ, ◌*ℤ◌, List, [], ◌∷◌, IsPermutation}
-use Rattle.problem_rules.specs.Each.{Each}
-use Rattle.problem_rules.specs.Problem.{Problem}
-use Rattle.problem_rules.specs.Validity.{IsValid}
-use Rattle.pns_rules.specs.Shape.{shape_of}
-use Rattle.pns_rules.specs.Nodes.{Node}
-use Rattle.tree_rules.specs.Tree.{IsTree}
-use Rattle.tree_rules.specs.Claim.{Claim, network, infeasible, unknown}
-use Rattle.tree_rules.specs.Accepted.{Tree, first_node}
-use Rattle.tree_text_rules.specs.OpenLeaves.{StandsOpen}
-use Rattle.tree_text_rules.specs.Part.{Part, start_of}
-use Rattle.tree_text_rules.specs.Merge.{IsLeafOf, IsMerged}
-use Rattle.tree_text_rules.specs.Several.{AreMerged}
+use Rattle.tree_text_laws.specs.problem_rules.Each.{Each}
+use Rattle.tree_text_laws.specs.problem_rules.Problem.{Problem}
+use Rattle.tree_text_laws.specs.problem_rules.Validity.{IsValid}
+use Rattle.tree_text_laws.specs.pns_rules.Shape.{shape_of}
+use Rattle.tree_text_laws.specs.pns_rules.Nodes.{Node}
+use Rattle.tree_text_laws.specs.tree_rules.Tree.{IsTree}
+use Rattle.tree_text_laws.specs.tree_rules.Claim.{Claim, network, infeasible, unknown}
+use Rattle.tree_text_laws.specs.tree_rules.Accepted.{Tree, first_node}
+use Rattle.tree_text_laws.specs.tree_text_rules.OpenLeaves.{StandsOpen}
+use Rattle.tree_text_laws.specs.tree_text_rules.Part.{Part, start_of}
+use Rattle.tree_text_laws.specs.tree_text_rules.Merge.{IsLeafOf, IsMerged}
+use Rattle.tree_text_laws.specs.tree_text_rules.Several.{AreMerged}
 
 -- Both claim a network, and the two costs are one fraction; or both claim that there is none; or
 -- both claim nothing.

@@ -1,13 +1,13 @@
 -- The laws of the text of parts, each of which a public function of this crate has as its contract.
 use Rattle.std.specs.Prelude.{◌≡◌, ℕ, List, Result, Ok}
-use Rattle.problem_rules.specs.Problem.{Problem}
-use Rattle.problem_rules.specs.Validity.{IsValid}
-use Rattle.tree_rules.specs.Known.{AreUnits}
-use Rattle.tree_text_rules.specs.Read.{Fault, Certificate}
+use Rattle.tree_text_laws.specs.problem_rules.Problem.{Problem}
+use Rattle.tree_text_laws.specs.problem_rules.Validity.{IsValid}
+use Rattle.tree_text_laws.specs.tree_rules.Known.{AreUnits}
+use Rattle.tree_text_laws.specs.tree_text_rules.Read.{Fault, Certificate}
 use Rattle.tree_text_laws.specs.Fits as trees
-use Rattle.tree_text_rules.specs.Part.{Part, IsApart}
-use Rattle.tree_text_rules.specs.PartRead.{PartReads}
-use Rattle.tree_text_rules.specs.PartSpelling.{part_text}
+use Rattle.tree_text_laws.specs.tree_text_rules.Part.{Part, IsApart}
+use Rattle.tree_text_laws.specs.tree_text_rules.PartRead.{PartReads}
+use Rattle.tree_text_laws.specs.tree_text_rules.PartSpelling.{part_text}
 
 -- what a part has of a tree text
 abbrev pub certificate_of : Part → Certificate

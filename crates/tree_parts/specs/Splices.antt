@@ -1,15 +1,15 @@
 -- Several parts in the places of open leaves of one tree. A place is that of the leaf in the tree
 -- itself. So the parts are put in from the last place on: a part moves no node before it.
 use Rattle.std.specs.Prelude.{◌<◌, ℕ, true, List, [], ◌∷◌, Option, if◌then◌else◌}
-use Rattle.problem_rules.specs.Problem.{Problem}
-use Rattle.pns_rules.specs.Shape.{shape_of}
-use Rattle.pns_rules.specs.Nodes.{Node}
-use Rattle.tree_rules.specs.Tree.{IsTree, Pass}
-use Rattle.tree_rules.specs.Claim.{CostOver, Claim, network, infeasible, unknown}
-use Rattle.tree_rules.specs.Leaf.{LeafPasses}
-use Rattle.tree_rules.specs.Accepted.{Tree}
-use Rattle.tree_text_rules.specs.Graft.{graft_at, cheaper, has_open}
-use Rattle.tree_text_rules.specs.OpenLeaves.{StandsOpen}
+use Rattle.tree_text_laws.specs.problem_rules.Problem.{Problem}
+use Rattle.tree_text_laws.specs.pns_rules.Shape.{shape_of}
+use Rattle.tree_text_laws.specs.pns_rules.Nodes.{Node}
+use Rattle.tree_text_laws.specs.tree_rules.Tree.{IsTree, Pass}
+use Rattle.tree_text_laws.specs.tree_rules.Claim.{CostOver, Claim, network, infeasible, unknown}
+use Rattle.tree_text_laws.specs.tree_rules.Leaf.{LeafPasses}
+use Rattle.tree_text_laws.specs.tree_rules.Accepted.{Tree}
+use Rattle.tree_text_laws.specs.tree_text_rules.Graft.{graft_at, cheaper, has_open}
+use Rattle.tree_text_laws.specs.tree_text_rules.OpenLeaves.{StandsOpen}
 
 -- the tree of a part, and the number of the leaf whose place it takes
 pub record Splice : Type 0 where

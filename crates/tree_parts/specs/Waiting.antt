@@ -1,11 +1,11 @@
 -- Parts that wait for the places of their leaves in one tree, and what it means that the list of
 -- them has one more.
 use Rattle.std.specs.Prelude.{◌≡◌, ◌<◌, ℕ, List, [], ◌∷◌, ◌++◌, length, map}
-use Rattle.tree_text_rules.specs.OpenLeaves.{OpenAt, IsAmong}
+use Rattle.tree_text_laws.specs.tree_text_rules.OpenLeaves.{OpenAt, IsAmong}
 use Rattle.tree_parts.specs.Splices.{Splice, AllBelow, AllAbove}
 use Rattle.tree_parts.specs.declared.waiting.Waiting.{Waiting}
-use Rattle.tree_text_rules.specs.Part as parts
-use Rattle.tree_text_rules.specs.Part.{start_of}
+use Rattle.tree_text_laws.specs.tree_text_rules.Part as parts
+use Rattle.tree_text_laws.specs.tree_text_rules.Part.{start_of}
 
 abbrev pub splice_of : Waiting → Splice
 splice_of w = record { place = w.place; part = w.nodes.items }

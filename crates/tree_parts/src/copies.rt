@@ -1,11 +1,10 @@
 //! Copies of nodes and networks.
 ghost use Rattle.std.specs.Prelude.{◌≡◌, ◌++◌, IfOk, OnOk};
-ghost use Rattle.branch_tree.specs.View.{end_of};
-ghost use Rattle.tree_text_rules.specs.Graft.{grafted};
+ghost use Rattle.tree_text_laws.specs.branch_tree.View.{end_of};
+ghost use Rattle.tree_text_laws.specs.tree_text_rules.Graft.{grafted};
 
-use branch_tree::{End, Multipliers, Network, Scaled, Steps, TreeNode};
-use pgraph::Covers;
 use std::alloc::{AllocError, Global};
+use tree_text_laws::{Covers, End, Multipliers, Network, Scaled, Steps, TreeNode};
 
 /// A copy of a network.
 pub fn copied_network(alloc: Global, network: &Network) -> Result<Network, AllocError>

@@ -42,7 +42,11 @@ mod sound;
 mod splicing;
 mod waiting;
 
-pub use cert_check::OpenLeaf;
+pub use cert_check::{
+    Facts, Known, OpenLeaf, accepted_is_optimal, capped_claim, capped_shape, check_claim,
+    check_from, check_headed, check_tree, judge_head, judge_line, lower_bound_holds, maximal,
+    print_token, rate_of, recharged_is_lean, recharged_is_tree, recharged_knows,
+};
 pub use copies::{copied_end, copied_network, copied_scaled};
 pub use laws::{grafts_are_partial, open_leaves_stand, order_is_free, others_stay_open};
 pub use merging::merge;
@@ -54,3 +58,13 @@ pub use read::read_part;
 pub use set::units_named;
 pub use several::{PartFault, merge_all};
 pub use sound::is_sound;
+pub use tree_reading::{Cut, Headed, TreeFault, read_head};
+pub use tree_text::{
+    CostOver, Effort, FileShelf, Mixed, OutSink, Outputs, PrintFault, Shelf, Sink, Watch, bound_of,
+    print_network, print_tree, read_all, sets_of,
+};
+pub use tree_text_laws::{
+    Claim, Cover, Covers, End, Graph, Head, HeadLine, MatSet, Network, Node, OperatingUnit, Parts,
+    Place, Problem, Scaled, Site, Step, Steps, Tail, Tree, TreeNode, UnitSet, generate,
+    plain_texts_are_headed, read_texts_are_spelled, spelled_headed_texts_read, spelled_texts_read,
+};

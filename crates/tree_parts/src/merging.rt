@@ -1,33 +1,29 @@
 //! A part that is put back.
 ghost use Rattle.std.specs.Prelude.{◌≡◌, ◌<◌, ◌+◌, ◌-◌, ◌^◌, ◌↔◌, ◌∷◌, ◌<ℤ◌, ◌*ℤ◌, [], ℕ, length};
 ghost use Rattle.std.specs.Prelude.{IsTrue, OnOk, IfOk, IfErr, IfSome, IfNone};
-ghost use Rattle.problem_rules.specs.Problem.{Problem};
-ghost use Rattle.pns_rules.specs.Shape.{shape_of};
-ghost use Rattle.tree_rules.specs.Claim as rules;
-ghost use Rattle.tree_rules.specs.Accepted as trees;
-ghost use Rattle.tree_rules.specs.Accepted.{first_node, IsPartial};
-ghost use Rattle.pgraph.specs.View.{node_of};
-ghost use Rattle.branch_tree.specs.View.{claim_of, end_of};
+ghost use Rattle.tree_text_laws.specs.problem_rules.Problem.{Problem};
+ghost use Rattle.tree_text_laws.specs.pns_rules.Shape.{shape_of};
+ghost use Rattle.tree_text_laws.specs.tree_rules.Claim as rules;
+ghost use Rattle.tree_text_laws.specs.tree_rules.Accepted as trees;
+ghost use Rattle.tree_text_laws.specs.tree_rules.Accepted.{first_node, IsPartial};
+ghost use Rattle.tree_text_laws.specs.pgraph.View.{node_of};
+ghost use Rattle.tree_text_laws.specs.branch_tree.View.{claim_of, end_of};
 ghost use Rattle.cert_check.specs.Known.{KnowsInside};
 ghost use Rattle.cert_check.specs.OpenLeaves.{leaves_at};
-ghost use Rattle.tree_text_rules.specs.OpenLeaves.{open_leaves, IsAmong};
-ghost use Rattle.tree_text_rules.specs.Graft as grafts;
-ghost use Rattle.tree_text_rules.specs.Part as parts;
-ghost use Rattle.tree_text_rules.specs.Part.{start_of};
-ghost use Rattle.tree_text_rules.specs.Merge.{IsMerged, IsLeafOf, MergeFails};
+ghost use Rattle.tree_text_laws.specs.tree_text_rules.OpenLeaves.{open_leaves, IsAmong};
+ghost use Rattle.tree_text_laws.specs.tree_text_rules.Graft as grafts;
+ghost use Rattle.tree_text_laws.specs.tree_text_rules.Part as parts;
+ghost use Rattle.tree_text_laws.specs.tree_text_rules.Part.{start_of};
+ghost use Rattle.tree_text_laws.specs.tree_text_rules.Merge.{IsMerged, IsLeafOf, MergeFails};
 
 use crate::copies::{copied_network, grafted, push_copies};
 use crate::open::{check_part, open_leaves};
 use crate::part::Part;
-use branch_tree::{Claim, End, Network, Tree, TreeNode};
-use cert_check::OpenLeaf;
-use exact_numbers::CostOver;
 use crate::{grafts_are_partial, open_leaves_stand};
-use tree_text_rules::MergeFault;
-use pgraph::Site;
+use cert_check::OpenLeaf;
 use std::alloc::{AllocError, Global};
-use tree_rules::Refusal;
-use unit_sets::Node;
+use tree_text::CostOver;
+use tree_text_laws::{Claim, End, MergeFault, Network, Node, Refusal, Site, Tree, TreeNode};
 
 /// Whether the nodes are the same.
 fn are_same(a: &Node, b: &Node) -> bool

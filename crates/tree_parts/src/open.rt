@@ -1,22 +1,19 @@
 //! The open leaves of a tree.
 ghost use Rattle.std.specs.Prelude.{◌≡◌, ◌<◌, ◌^◌, ◌∷◌, [], true, length, OnOk, IfOk, IfErr};
-ghost use Rattle.pns_rules.specs.Shape.{shape_of};
-ghost use Rattle.tree_rules.specs.Accepted.{first_node, IsPartial};
-ghost use Rattle.branch_tree.specs.View.{claim_of};
+ghost use Rattle.tree_text_laws.specs.pns_rules.Shape.{shape_of};
+ghost use Rattle.tree_text_laws.specs.tree_rules.Accepted.{first_node, IsPartial};
+ghost use Rattle.tree_text_laws.specs.branch_tree.View.{claim_of};
 ghost use Rattle.cert_check.specs.Known.{KnowsInside};
-ghost use Rattle.tree_text_rules.specs.OpenLeaves.{open_leaves};
+ghost use Rattle.tree_text_laws.specs.tree_text_rules.OpenLeaves.{open_leaves};
 ghost use Rattle.cert_check.specs.OpenLeaves.{leaves_at};
-ghost use Rattle.tree_rules.specs.Refusals.{Refuses};
+ghost use Rattle.tree_text_laws.specs.tree_rules.Refusals.{Refuses};
 ghost use Rattle.cert_check.specs.Refusals.{IsOkOrMemory, NamesClaim, NamesNode};
-ghost use Rattle.tree_text_rules.specs.Part.{start_of};
+ghost use Rattle.tree_text_laws.specs.tree_text_rules.Part.{start_of};
 
 use crate::part::Part;
-use branch_tree::{Claim, Tree};
 use cert_check::{OpenLeaf, check_from};
-use pgraph::Site;
 use std::alloc::Global;
-use tree_rules::Refusal;
-use unit_sets::{Node, UnitSet};
+use tree_text_laws::{Claim, Node, Refusal, Site, Tree, UnitSet};
 
 /// The open leaves of the tree in preorder, each with the node that its steps leave. Unless there
 /// is no memory, `Ok` comes if and only if the tree proves its claim but for them. Else the refusal

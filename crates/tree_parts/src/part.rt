@@ -1,11 +1,10 @@
 //! Parts.
 ghost use Rattle.std.specs.Prelude.{◌≡◌};
-ghost use Rattle.branch_tree.specs.View.{claim_of, tail_of};
-ghost use Rattle.tree_text_rules.specs.Part.{IsApart};
+ghost use Rattle.tree_text_laws.specs.branch_tree.View.{claim_of, tail_of};
+ghost use Rattle.tree_text_laws.specs.tree_text_rules.Part.{IsApart};
 
-use branch_tree::{Claim, Tail, Tree};
 use std::marker::Model;
-use unit_sets::Node;
+use tree_text_laws::{Claim, Node, Tail, Tree};
 
 /// What a run found from a node of its own: what it claims, its tree, and the tail, which says why
 /// it stopped. No unit is both taken in and left out at the node.
@@ -18,9 +17,9 @@ pub struct Part {
 }
 
 impl Model for Part {
-    ghost use Rattle.branch_tree.specs.View.{claim_of, tail_of};
-    ghost use Rattle.tree_text_rules.specs.Part as rules;
-    ghost use Rattle.tree_text_rules.specs.Part.{IsApart};
+    ghost use Rattle.tree_text_laws.specs.branch_tree.View.{claim_of, tail_of};
+    ghost use Rattle.tree_text_laws.specs.tree_text_rules.Part as rules;
+    ghost use Rattle.tree_text_laws.specs.tree_text_rules.Part.{IsApart};
 
     ghost Value = { rules.Part };
 

@@ -1,8 +1,8 @@
 //! The laws. Each function does nothing when it runs; a call gives a proof its law.
-ghost use Rattle.tree_parts.specs.PartLaws.{SpelledPartsRead, ReadPartsAreSpelled, PartsAreReadOnce};
+ghost use Rattle.tree_parts.specs.PartLaws.{SpelledPartsRead, ReadPartsAreSpelled};
+ghost use Rattle.tree_parts.specs.PartLaws.{PartsAreReadOnce};
 
-use problem_rules::valid_is_well_formed;
-use tree_text_laws::{rests_are_read, spelled_texts_read};
+use tree_text_laws::{rests_are_read, spelled_texts_read, valid_is_well_formed};
 
 /// The text of a part that fits a valid problem reads as the part.
 pub fn spelled_parts_read()

@@ -1,17 +1,15 @@
 //! The text of a part, line by line.
 ghost use Rattle.std.specs.Prelude.{◌≡◌, ◌≤◌, OnOk, string_bytes};
-ghost use Rattle.tree_rules.specs.Known.{KnowsClaim, KnowsTree, KnowsTail};
-ghost use Rattle.text_rules.specs.Canonical.{joined};
+ghost use Rattle.tree_text_laws.specs.tree_rules.Known.{KnowsClaim, KnowsTree, KnowsTail};
+ghost use Rattle.tree_text_laws.specs.text_rules.Canonical.{joined};
 ghost use Rattle.tree_text.specs.Prints.{Prints};
-ghost use Rattle.tree_text_rules.specs.PartSpelling.{set_line, part_text_lines};
+ghost use Rattle.tree_text_laws.specs.tree_text_rules.PartSpelling.{set_line, part_text_lines};
 
-use pns_io::Sink;
-use pns_problem::Problem;
-use std::alloc::{AllocError, Global};
-use structure_list::print_token;
 use crate::Part;
-use tree_text::{PrintFault, begin, print_rest, push_field, put_line};
-use unit_sets::UnitSet;
+use cert_check::print_token;
+use std::alloc::{AllocError, Global};
+use tree_text::{PrintFault, Sink, begin, print_rest, push_field, put_line};
+use tree_text_laws::{Problem, UnitSet};
 
 // The word and the token of the set.
 fn set_line(alloc: Global, line: &mut String, word: &str, units: UnitSet) -> Result<(), AllocError>

@@ -3,17 +3,15 @@ ghost use Rattle.std.specs.Prelude.{◌≡◌, ◌≤◌, ◌<◌, ◌-◌, ◌^
 ghost use Rattle.tree_reading.specs.View.{line_of};
 ghost use Rattle.tree_reading.specs.Place.{IsCut, lines_at};
 ghost use Rattle.tree_parts.specs.Lines.{IsTaken, IsFaultAt};
-ghost use Rattle.tree_text_rules.specs.PartRead.{SetLine, PartReads, is_file_type};
-ghost use Rattle.tree_text_rules.specs.PartSpelling.{KnowsPart};
+ghost use Rattle.tree_text_laws.specs.tree_text_rules.PartRead.{SetLine, PartReads, is_file_type};
+ghost use Rattle.tree_text_laws.specs.tree_text_rules.PartSpelling.{KnowsPart};
 ghost use Rattle.tree_parts.specs.Tells.{TellsPart};
 
-use crate::set::set_line;
-use pns_problem::Problem;
-use std::alloc::Global;
 use crate::Part;
+use crate::set::set_line;
+use std::alloc::Global;
 use tree_reading::{Cut, Line, TreeFault, kind_at, line_at, read_rest};
-use tree_text_rules::TreeKind;
-use unit_sets::{Node, UnitSet};
+use tree_text_laws::{Node, Problem, TreeKind, UnitSet};
 
 fn is_file_type(line: &Line) -> bool
     ensures { result ≡ is_file_type (line_of line.now) }

@@ -1,18 +1,16 @@
 //! Sets of units by their tokens, and the lines of a part's text that have one.
 ghost use Rattle.std.specs.Prelude.{◌≡◌, ◌<◌, ◌∷◌, [], ℕ, List, Ok, Err, IfOk, IfErr, IfSome};
 ghost use Rattle.std.specs.Prelude.{IfNone};
-ghost use Rattle.tree_rules.specs.Known.{AreUnits};
-ghost use Rattle.pns_rules.specs.Tokens.{token_of};
-ghost use Rattle.tree_text_rules.specs.Line.{Token};
+ghost use Rattle.tree_text_laws.specs.tree_rules.Known.{AreUnits};
+ghost use Rattle.tree_text_laws.specs.pns_rules.Tokens.{token_of};
+ghost use Rattle.tree_text_laws.specs.tree_text_rules.Line.{Token};
 ghost use Rattle.tree_reading.specs.View.{line_of};
-ghost use Rattle.tree_text_rules.specs.PartRead.{IsFormedAs, SetLine};
+ghost use Rattle.tree_text_laws.specs.tree_text_rules.PartRead.{IsFormedAs, SetLine};
 
-use pns_problem::Problem;
+use cert_check::read_token;
 use std::str;
-use structure_list::read_token;
 use tree_reading::{Line, first_token, next_token, parts_of};
-use tree_text_rules::TreeKind;
-use unit_sets::UnitSet;
+use tree_text_laws::{Problem, TreeKind, UnitSet};
 
 /// The units of the problem whose token the word is. It is `None` if and only if the word is the
 /// token of no set of them.

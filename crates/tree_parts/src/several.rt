@@ -1,23 +1,23 @@
 //! Several parts that are put back in turn.
 ghost use Rattle.std.specs.Prelude.{◌≡◌, ◌≤◌, ◌<◌, ◌+◌, ◌^◌, ℕ, true, false, [], length, take};
 ghost use Rattle.std.specs.Prelude.{OnOk, IfOk, IfErr};
-ghost use Rattle.problem_rules.specs.Each.{Each};
-ghost use Rattle.pns_rules.specs.Shape.{shape_of};
-ghost use Rattle.tree_rules.specs.Tree.{IsTree};
-ghost use Rattle.tree_rules.specs.Claim as rules;
-ghost use Rattle.tree_rules.specs.Accepted as trees;
-ghost use Rattle.tree_rules.specs.Accepted.{first_node, IsPartial};
-ghost use Rattle.branch_tree.specs.View.{claim_of};
+ghost use Rattle.tree_text_laws.specs.problem_rules.Each.{Each};
+ghost use Rattle.tree_text_laws.specs.pns_rules.Shape.{shape_of};
+ghost use Rattle.tree_text_laws.specs.tree_rules.Tree.{IsTree};
+ghost use Rattle.tree_text_laws.specs.tree_rules.Claim as rules;
+ghost use Rattle.tree_text_laws.specs.tree_rules.Accepted as trees;
+ghost use Rattle.tree_text_laws.specs.tree_rules.Accepted.{first_node, IsPartial};
+ghost use Rattle.tree_text_laws.specs.branch_tree.View.{claim_of};
 ghost use Rattle.cert_check.specs.Known.{KnowsInside};
 ghost use Rattle.cert_check.specs.OpenLeaves.{leaves_at};
-ghost use Rattle.tree_text_rules.specs.OpenLeaves.{IsAmong};
-ghost use Rattle.tree_text_rules.specs.Graft as grafts;
+ghost use Rattle.tree_text_laws.specs.tree_text_rules.OpenLeaves.{IsAmong};
+ghost use Rattle.tree_text_laws.specs.tree_text_rules.Graft as grafts;
 ghost use Rattle.tree_parts.specs.Splices as splices;
 ghost use Rattle.tree_parts.specs.Splices.{AreRising, spliced};
-ghost use Rattle.tree_text_rules.specs.Part.{start_of};
-ghost use Rattle.tree_text_rules.specs.Merge.{MergeFails};
-ghost use Rattle.tree_text_rules.specs.Several.{AreMerged, StopsAt};
-ghost use Rattle.tree_text_rules.specs.declared.merge_fault.MergeFault.TheVariants.{Memory};
+ghost use Rattle.tree_text_laws.specs.tree_text_rules.Part.{start_of};
+ghost use Rattle.tree_text_laws.specs.tree_text_rules.Merge.{MergeFails};
+ghost use Rattle.tree_text_laws.specs.tree_text_rules.Several.{AreMerged, StopsAt};
+ghost use Rattle.tree_text_laws.specs.tree_text_rules.declared.merge_fault.MergeFault.TheVariants.{Memory};
 ghost use Rattle.tree_parts.specs.Waiting.{splices_of, AreWithin, IsOneMore};
 
 use crate::copies::copied_network;
@@ -25,12 +25,10 @@ use crate::merging::{cheaper_of, has_open, judge_part, leaves_of};
 use crate::part::Part;
 use crate::splicing::splice;
 use crate::waiting::{Waiting, put_by};
-use branch_tree::{Claim, Tree, TreeNode};
-use cert_check::OpenLeaf;
 use crate::{grafts_are_partial, open_leaves_stand};
-use tree_text_rules::MergeFault;
-use pgraph::Site;
+use cert_check::OpenLeaf;
 use std::alloc::{AllocError, Global};
+use tree_text_laws::{Claim, MergeFault, Site, Tree, TreeNode};
 
 /// Which of several parts is not put back, counted from 0, and why.
 #[derive(Clone, Copy, Debug, PartialEq, Eq)]

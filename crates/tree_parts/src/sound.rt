@@ -1,13 +1,12 @@
 //! Sound nodes.
 ghost use Rattle.std.specs.Prelude.{◌≡◌, ◌<◌, ◌↔◌, ℕ, true, IsTrue};
-ghost use Rattle.number_sets.specs.Sets.{has, Avoids};
-ghost use Rattle.pns_rules.specs.Structure.{HasPath};
-ghost use Rattle.pns_rules.specs.Ends.{IsSound};
-ghost use Rattle.pgraph.specs.Tables.{shape};
-ghost use Rattle.pgraph.specs.View.{node_of};
+ghost use Rattle.tree_text_laws.specs.number_sets.Sets.{has, Avoids};
+ghost use Rattle.tree_text_laws.specs.pns_rules.Structure.{HasPath};
+ghost use Rattle.tree_text_laws.specs.pns_rules.Ends.{IsSound};
+ghost use Rattle.tree_text_laws.specs.pgraph.Tables.{shape};
+ghost use Rattle.tree_text_laws.specs.pgraph.View.{node_of};
 
-use pgraph::Graph;
-use unit_sets::{Node, UnitSet};
+use tree_text_laws::{Graph, Node, UnitSet};
 
 fn are_units(graph: &Graph, set: UnitSet) -> bool
     ensures { IsTrue result ↔ ((u : ℕ) → has set u ≡ true → u < (shape graph.now).units) }

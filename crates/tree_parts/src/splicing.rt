@@ -1,13 +1,13 @@
 //! Parts that are put in the places of their leaves, all in one pass.
 ghost use Rattle.std.specs.Prelude.{◌≡◌, ◌≤◌, ◌<◌, ◌+◌, ◌++◌, length, reverse, IfOk, OnOk};
-ghost use Rattle.tree_text_rules.specs.Graft as grafts;
+ghost use Rattle.tree_text_laws.specs.tree_text_rules.Graft as grafts;
 ghost use Rattle.tree_parts.specs.Splices.{AreRising, spliced};
 ghost use Rattle.tree_parts.specs.Waiting.{splices_of, AreWithin};
 
 use crate::copies::grafted;
 use crate::waiting::Waiting;
-use branch_tree::TreeNode;
 use std::alloc::{AllocError, Global};
+use tree_text_laws::TreeNode;
 
 // Moves the nodes after the first `keep` from the end of the one list to the other, the last first.
 fn lay_back(

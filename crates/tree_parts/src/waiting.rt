@@ -1,18 +1,18 @@
 //! Parts that wait for the places of their leaves in one tree.
 ghost use Rattle.std.specs.Prelude.{◌≡◌, ◌≤◌, ◌<◌, ℕ, true, false, [], length, take, drop, IfOk};
 ghost use Rattle.std.specs.Prelude.{IfSome, IfNone};
-ghost use Rattle.tree_text_rules.specs.OpenLeaves.{IsAmong};
+ghost use Rattle.tree_text_laws.specs.tree_text_rules.OpenLeaves.{IsAmong};
 ghost use Rattle.cert_check.specs.OpenLeaves.{leaves_at};
 ghost use Rattle.tree_parts.specs.Splices.{AllBelow, AllAbove, AreRising};
-ghost use Rattle.tree_text_rules.specs.Part.{start_of};
+ghost use Rattle.tree_text_laws.specs.tree_text_rules.Part.{start_of};
 ghost use Rattle.tree_parts.specs.Waiting.{splices_of, IsOneMore};
 
 use crate::copies::push_copies;
 use crate::merging::leaf_at;
 use crate::part::Part;
-use branch_tree::TreeNode;
 use cert_check::OpenLeaf;
 use std::alloc::{AllocError, Global};
+use tree_text_laws::TreeNode;
 
 /// The nodes of a part, and the number of the leaf whose place they take.
 #[derive(Drop)]

@@ -1,6 +1,6 @@
 -- Lines with another number of tokens than their form has.
 use Rattle.std.proofs.Common.{◌≡◌, ◌<◌, List, [], ◌∷◌, length, Result, Err, refl, arith}
-use Rattle.problem_rules.specs.Problem.{Problem}
+use Rattle.tree_text_rules.specs.problem_rules.Problem.{Problem}
 use Rattle.tree_text_rules.specs.Line.{Token}
 use Rattle.tree_text_rules.specs.LineRead.{alone, one, two, entry_of}
 use Rattle.tree_text_rules.specs.declared.TreeKind.{TreeKind}

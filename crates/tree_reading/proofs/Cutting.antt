@@ -4,7 +4,7 @@ use Rattle.std.proofs.Common.{count_by, take, drop, refl, ap, ◌∙◌, arith}
 use Rattle.std.specs.List.{slice_split, position_or_len}
 use Rattle.std.proofs.lemmas.Grind.{common_steps}
 use Rattle.std.proofs.lemmas.List.Splits.{length-slice_split}
-use Rattle.text_lines.proofs.Cutting.{split-at, split-none, parts_some}
+use Rattle.text_lines.proofs.Cited.{split-at, split-none, parts_some}
 use Rattle.tree_text_rules.specs.Line.{lines_of, lines_from, is_feed, is_space}
 
 -- a piece after which others follow

@@ -1,10 +1,10 @@
 -- Tokens of a place that are read together: two, or an entry's five.
 use Rattle.std.proofs.Common.{◌≡◌, List, [], ◌∷◌, Option, Result, ap, sym, ◌∙◌}
-use Rattle.integer_laws.specs.declared.which.Which.{Which}
-use Rattle.flow_rules.specs.declared.place.Column.{Column}
-use Rattle.flow_rules.specs.declared.place.Place.{Place}
-use Rattle.flow_rules.specs.declared.place.Place.TheVariants.{Entry}
-use Rattle.problem_rules.specs.Problem.{Problem}
+use Rattle.tree_text_rules.specs.integer_laws.declared.which.Which.{Which}
+use Rattle.tree_text_rules.specs.flow_rules.declared.place.Column.{Column}
+use Rattle.tree_text_rules.specs.flow_rules.declared.place.Place.{Place}
+use Rattle.tree_text_rules.specs.flow_rules.declared.place.Place.TheVariants.{Entry}
+use Rattle.tree_text_rules.specs.problem_rules.Problem.{Problem}
 use Rattle.tree_text_rules.specs.Line.{Token}
 use Rattle.tree_text_rules.specs.LineRead.{two, entry_of}
 use Rattle.tree_text_rules.specs.Token.{both, mapped, column_of, row_of, which_of}

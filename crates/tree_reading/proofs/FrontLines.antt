@@ -1,11 +1,11 @@
 -- The head of a tree, read line by line.
 use Rattle.std.proofs.Common.{◌≡◌, ◌++◌, ℕ, suc, ℤ, Bool, List, [], ◌∷◌, Option, Some, None}
 use Rattle.std.proofs.Common.{Result, Ok, Err, refl, sym, ap, ◌∙◌, subst, append_assoc, append-nil}
-use Rattle.problem_rules.specs.Problem.{Problem}
-use Rattle.flow_rules.specs.Cover.{Cover}
-use Rattle.flow_rules.specs.ChargeFacts.{Demand}
-use Rattle.tree_rules.specs.Head.{HeadLine, step, cap, out, trim, uses}
-use Rattle.tree_rules.specs.HeadKnown.{KnowsLine}
+use Rattle.tree_text_rules.specs.problem_rules.Problem.{Problem}
+use Rattle.tree_text_rules.specs.flow_rules.Cover.{Cover}
+use Rattle.tree_text_rules.specs.flow_rules.ChargeFacts.{Demand}
+use Rattle.tree_text_rules.specs.tree_rules.Head.{HeadLine, step, cap, out, trim, uses}
+use Rattle.tree_text_rules.specs.tree_rules.HeadKnown.{KnowsLine}
 use Rattle.branch_tree.specs.HeadView.{line_of, lines_of}
 use Rattle.branch_tree.specs.declared.line.HeadLine as values
 use Rattle.tree_text_rules.specs.Line.{Token, Line, word_of, fields_of, is_formed}

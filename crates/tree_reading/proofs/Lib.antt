@@ -1,3 +1,4 @@
+pub mod Cited
 pub mod Counted
 pub mod Cutting
 pub mod Entries
@@ -10,3 +11,5 @@ pub mod NamedSets
 pub mod NodeByNode
 pub mod RisingUnits
 pub mod Scales
+pub use Rattle.text_lines.proofs as text_lines
+pub use Rattle.branch_tree.proofs.pns_problem as pns_problem

@@ -3,13 +3,13 @@ use Rattle.std.proofs.Common.{◌≡◌, ◌<◌, ◌≤◌, ℕ, Bool, true, fa
 use Rattle.std.proofs.Common.{Some, None, IfSome, Result, Ok, Err, IfOk, IfErr, arith}
 use Rattle.std.proofs.Common.{if◌then◌else◌}
 use Rattle.std.proofs.lemmas.List.{length-map}
-use Rattle.problem_rules.specs.Each.{Each}
-use Rattle.problem_rules.specs.Problem.{Problem}
-use Rattle.flow_rules.specs.Cover as rules
-use Rattle.pgraph.specs.Kept.{IsKept, AreKept}
-use Rattle.pgraph.specs.CoversView.{cover_of, covers_of}
-use Rattle.pgraph.specs.declared.cover.Cover.{Cover}
-use Rattle.tree_rules.specs.Known.{KnowsCover}
+use Rattle.tree_text_rules.specs.problem_rules.Each.{Each}
+use Rattle.tree_text_rules.specs.problem_rules.Problem.{Problem}
+use Rattle.tree_text_rules.specs.flow_rules.Cover as rules
+use Rattle.branch_tree.specs.pgraph.Kept.{IsKept, AreKept}
+use Rattle.branch_tree.specs.pgraph.CoversView.{cover_of, covers_of}
+use Rattle.branch_tree.specs.pgraph.declared.cover.Cover.{Cover}
+use Rattle.tree_text_rules.specs.tree_rules.Known.{KnowsCover}
 use Rattle.tree_text_rules.specs.Line.{Token}
 use Rattle.tree_text_rules.specs.LineRead.{some_units}
 use Rattle.tree_text_rules.specs.Token.{both, mapped, each, judged, unit_of, units_of, is_rising}

@@ -9,11 +9,11 @@ use Rattle.std.proofs.lemmas.Bool.{lt-ltb, le-ltb, ltb-true}
 use Rattle.std.proofs.lemmas.List.{at_drop_more, length-map}
 use Rattle.std.proofs.lemmas.Bool.Decides.{nat_tests, same_from_decides}
 use Rattle.std.proofs.lemmas.Slice.Eq.{bytes_eq-Decides}
-use Rattle.problem_rules.specs.Each.{Each}
-use Rattle.problem_rules.specs.Names.{is_name}
-use Rattle.problem_rules.specs.Problem.{Problem, Material, OperatingUnit}
-use Rattle.problem_rules.specs.WellFormed.{IsWellFormed}
-use Rattle.text_lines.proofs.Ascii.{name_utf8}
+use Rattle.tree_text_rules.specs.problem_rules.Each.{Each}
+use Rattle.tree_text_rules.specs.problem_rules.Names.{is_name}
+use Rattle.tree_text_rules.specs.problem_rules.Problem.{Problem, Material, OperatingUnit}
+use Rattle.tree_text_rules.specs.problem_rules.WellFormed.{IsWellFormed}
+use Rattle.text_lines.proofs.Cited.{name_utf8}
 use Rattle.tree_text_rules.specs.Token.{told, unit_of, material_of}
 use Rattle.tree_text_rules.specs.declared.TreeKind.{TreeKind}
 use Rattle.tree_text_rules.specs.declared.TreeKind.TheVariants.{UnknownName}

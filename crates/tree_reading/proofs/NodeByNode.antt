@@ -2,15 +2,15 @@
 use Rattle.std.proofs.Common.{◌≡◌, ◌+◌, ◌-◌, ◌<◌, ℕ, zero, suc, List, [], ◌∷◌, ◌++◌, Option, Some}
 use Rattle.std.proofs.Common.{None, Result, Ok, Err, refl, sym, ap, ◌∙◌, subst, arith, append_assoc}
 use Rattle.std.proofs.Common.{append-nil, zero-add}
-use Rattle.problem_rules.specs.Each.{Each}
-use Rattle.problem_rules.specs.Problem.{Problem}
-use Rattle.pns_rules.specs.Nodes.{Step}
-use Rattle.tree_rules.specs.Tree as trees
-use Rattle.tree_rules.specs.Leaf.{Leaf}
-use Rattle.tree_rules.specs.Accepted.{Tree}
+use Rattle.tree_text_rules.specs.problem_rules.Each.{Each}
+use Rattle.tree_text_rules.specs.problem_rules.Problem.{Problem}
+use Rattle.tree_text_rules.specs.pns_rules.Nodes.{Step}
+use Rattle.tree_text_rules.specs.tree_rules.Tree as trees
+use Rattle.tree_text_rules.specs.tree_rules.Leaf.{Leaf}
+use Rattle.tree_text_rules.specs.tree_rules.Accepted.{Tree}
 use Rattle.tree_text_rules.specs.Line.{Line}
-use Rattle.flow_rules.specs.Cover.{Cover}
-use Rattle.flow_rules.specs.ChargeLeaf.{Handed}
+use Rattle.tree_text_rules.specs.flow_rules.Cover.{Cover}
+use Rattle.tree_text_rules.specs.flow_rules.ChargeLeaf.{Handed}
 use Rattle.tree_text_rules.specs.LineRead.{step_read, end_line_read, next_cover, option_read}
 use Rattle.tree_text_rules.specs.Read.{Fault, Taken, Head, with_step, with_end, with_covers}
 use Rattle.tree_text_rules.specs.Read.{charge_end, charge_of, with_node, between, at_steps}

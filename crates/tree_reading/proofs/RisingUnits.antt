@@ -8,8 +8,8 @@ use Rattle.std.proofs.Math.Bool.{and_assoc, and-true}
 use Rattle.std.proofs.lemmas.Bool.{and_parts, ltb-true}
 use Rattle.std.proofs.lemmas.Bool.Decides.{nat_tests}
 use Rattle.std.proofs.lemmas.List.Folds.{list_all-append}
-use Rattle.number_sets.specs.Sets.{AreBelow, with_number}
-use Rattle.problem_rules.specs.Problem.{Problem}
+use Rattle.tree_text_rules.specs.number_sets.Sets.{AreBelow, with_number}
+use Rattle.tree_text_rules.specs.problem_rules.Problem.{Problem}
 use Rattle.tree_text_rules.specs.Line.{Token}
 use Rattle.tree_text_rules.specs.Token.{each, judged, unit_of, units_of, is_above_all, is_rising}
 use Rattle.tree_text_rules.specs.declared.TreeKind.TheVariants.{Order}

@@ -8,8 +8,8 @@ use Rattle.text_lines.specs.declared.fault.LineFault.{LineFault}
 use Rattle.text_lines.specs.declared.fault.LineFault.TheVariants as line
 use Rattle.branch_tree.specs.Scaled.{scaled_of}
 use Rattle.tree_text_rules.specs.Line.{Token}
-use Rattle.tree_rules.specs.Leaf.{Leaf, untried}
-use Rattle.tree_rules.specs.Tree.{End, leaf}
+use Rattle.tree_text_rules.specs.tree_rules.Leaf.{Leaf, untried}
+use Rattle.tree_text_rules.specs.tree_rules.Tree.{End, leaf}
 use Rattle.tree_text_rules.specs.LineRead.{one_and_more, open_of}
 use Rattle.tree_text_rules.specs.Token.{both, mapped, each, number_of}
 use Rattle.tree_text_rules.specs.declared.TreeKind.{TreeKind}

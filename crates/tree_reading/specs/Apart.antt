@@ -1,7 +1,7 @@
 -- A line in its parts: its first word, and the tokens after it.
 use Rattle.std.specs.Prelude.{◌≡◌, Bool, Option, Some, None, Result, Err, if◌then◌else◌}
-use Rattle.problem_rules.specs.Problem.{Problem}
-use Rattle.tree_rules.specs.Known.{AreUnits}
+use Rattle.tree_text_rules.specs.problem_rules.Problem.{Problem}
+use Rattle.tree_text_rules.specs.tree_rules.Known.{AreUnits}
 use Rattle.tree_text_rules.specs.Line as rules
 use Rattle.tree_text_rules.specs.declared.TreeKind.{TreeKind}
 use Rattle.tree_text_rules.specs.declared.TreeKind.TheVariants.{BadLine}

@@ -2,10 +2,10 @@
 -- and then with them.
 use Rattle.std.specs.Prelude.{◌≡◌, ℕ, Bool, List, [], ◌∷◌, Option, Some, None, IfSome, Result, Ok}
 use Rattle.std.specs.Prelude.{Err}
-use Rattle.problem_rules.specs.Problem.{Problem}
-use Rattle.flow_rules.specs.Cover.{Cover}
-use Rattle.tree_rules.specs.Head as heads
-use Rattle.tree_rules.specs.HeadKnown.{KnowsLine}
+use Rattle.tree_text_rules.specs.problem_rules.Problem.{Problem}
+use Rattle.tree_text_rules.specs.flow_rules.Cover.{Cover}
+use Rattle.tree_text_rules.specs.tree_rules.Head as heads
+use Rattle.tree_text_rules.specs.tree_rules.HeadKnown.{KnowsLine}
 use Rattle.branch_tree.specs.HeadView.{line_of}
 use Rattle.branch_tree.specs.declared.line.HeadLine.{HeadLine}
 use Rattle.tree_text_rules.specs.Line.{Token, Line}

@@ -1,8 +1,8 @@
 -- What a text says whose tree may have a head.
-use Rattle.problem_rules.specs.Problem.{Problem}
+use Rattle.tree_text_rules.specs.problem_rules.Problem.{Problem}
 use Rattle.branch_tree.specs.View.{claim_of, tail_of}
-use Rattle.tree_rules.specs.Known.{KnowsClaim, KnowsTree, KnowsTail}
-use Rattle.tree_rules.specs.HeadKnown.{KnowsHead}
+use Rattle.tree_text_rules.specs.tree_rules.Known.{KnowsClaim, KnowsTree, KnowsTail}
+use Rattle.tree_text_rules.specs.tree_rules.HeadKnown.{KnowsHead}
 use Rattle.tree_text_rules.specs.Read.{HeadedCertificate}
 use Rattle.tree_reading.specs.declared.text.Headed.{Headed}
 

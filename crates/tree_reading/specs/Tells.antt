@@ -1,7 +1,7 @@
 -- What a fault of the reader says of a whole text, and what a kind of fault says of a line with its
 -- number.
 use Rattle.std.specs.Prelude.{◌≡◌, ℕ, List, Result, Err}
-use Rattle.problem_rules.specs.Problem.{Problem}
+use Rattle.tree_text_rules.specs.problem_rules.Problem.{Problem}
 use Rattle.tree_text_rules.specs.Read as rules
 use Rattle.tree_text_rules.specs.declared.TreeKind.{TreeKind}
 use Rattle.text_lines.specs.declared.fault.TextFault.{TextFault}

@@ -1,7 +1,7 @@
 //! Claims.
 ghost use Rattle.std.specs.Prelude.{◌≡◌, ◌<◌, ◌-◌, ◌^◌, Ok, IfOk, IfErr, length};
 ghost use Rattle.branch_tree.specs.View.{claim_of};
-ghost use Rattle.tree_rules.specs.Known.{AreUnits, KnowsClaim};
+ghost use Rattle.tree_text_rules.specs.tree_rules.Known.{AreUnits, KnowsClaim};
 ghost use Rattle.tree_text_rules.specs.Read.{sizes_taken, network_taken, claim_taken};
 ghost use Rattle.tree_reading.specs.Gives.{GivesAt};
 ghost use Rattle.tree_reading.specs.Place.{IsCut, IsBehind, lines_at};
@@ -13,10 +13,8 @@ use crate::claim_line::{cost_line, network_line, opening_line, sizes_line};
 use crate::cut::{Cut, next_line};
 use crate::fault::{TreeFault, at_line};
 use crate::opening::Opening;
-use branch_tree::{Claim, Network};
-use pns_problem::Problem;
+use branch_tree::{Claim, Network, Problem, UnitSet};
 use std::alloc::Global;
-use unit_sets::UnitSet;
 
 // Sizes and cost of a network with these units.
 fn read_sizes(

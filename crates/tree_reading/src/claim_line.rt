@@ -1,7 +1,7 @@
 //! The lines of claims.
 ghost use Rattle.std.specs.Prelude.{◌≡◌, ◌≤ℤ◌, ℤ, List, Ok, Err, IfOk, IfErr, length, pos};
-ghost use Rattle.integer_laws.specs.Range.{InRange, AllInRange};
-ghost use Rattle.tree_rules.specs.Known.{AreUnits};
+ghost use Rattle.tree_text_rules.specs.integer_laws.Range.{InRange, AllInRange};
+ghost use Rattle.tree_text_rules.specs.tree_rules.Known.{AreUnits};
 ghost use Rattle.tree_text_rules.specs.LineRead as reads;
 ghost use Rattle.tree_reading.specs.Apart.{formed_by, opening_of, KnowsOpening};
 ghost use Rattle.text_lines.specs.Tells.{TellsLine};
@@ -15,10 +15,9 @@ use crate::list::numbers_of;
 use crate::number::{denominator_of, number_of};
 use crate::opening::Opening;
 use crate::unit_list::units_of;
-use pns_problem::Problem;
+use branch_tree::{Problem, UnitSet};
 use std::alloc::Global;
 use tree_text_rules::{TreeKind, Word};
-use unit_sets::UnitSet;
 
 /// The first line of a text.
 pub fn file_type_line(line: &Line) -> Result<(), TreeKind>

@@ -1,13 +1,11 @@
 //! Columns of a tableau, rows, and the words of places.
 ghost use Rattle.std.specs.Prelude.{◌≡◌, Ok, IfOk};
-ghost use Rattle.tree_rules.specs.Known.{KnowsColumn, KnowsRow};
+ghost use Rattle.tree_text_rules.specs.tree_rules.Known.{KnowsColumn, KnowsRow};
 ghost use Rattle.tree_text_rules.specs.Token as rules;
 
 use crate::name::{material_of, unit_of};
-use flow_rules::{Column, FlowStep};
-use integer_laws::Which;
-use pns_problem::Problem;
-use tree_text_rules::TreeKind;
+use branch_tree::Problem;
+use tree_text_rules::{Column, FlowStep, TreeKind, Which};
 
 /// A column.
 pub fn column_of(problem: &Problem, token: &[u8]) -> Result<Column, TreeKind>

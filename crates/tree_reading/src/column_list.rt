@@ -1,7 +1,7 @@
 //! Lists of columns.
 ghost use Rattle.std.specs.Prelude.{◌≡◌, ◌∷◌, [], Ok, IfOk, IfErr, OnOk};
-ghost use Rattle.problem_rules.specs.Each.{Each};
-ghost use Rattle.tree_rules.specs.Known.{KnowsColumn};
+ghost use Rattle.tree_text_rules.specs.problem_rules.Each.{Each};
+ghost use Rattle.tree_text_rules.specs.tree_rules.Known.{KnowsColumn};
 ghost use Rattle.tree_text_rules.specs.Token as rules;
 ghost use Rattle.tree_reading.specs.Joined.{so_far, joined};
 ghost use Rattle.text_lines.specs.Tells.{TellsLine};
@@ -11,10 +11,9 @@ use crate::column::column_of;
 use crate::fault_order::lesser;
 use crate::line::first_token;
 use crate::line_fault::LineFault;
-use flow_rules::Column;
-use pns_problem::Problem;
+use branch_tree::Problem;
 use std::alloc::{AllocError, Global};
-use tree_text_rules::TreeKind;
+use tree_text_rules::{Column, TreeKind};
 
 // Takes a token: one more column, or its fault.
 fn take_column(

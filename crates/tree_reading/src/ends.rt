@@ -2,10 +2,10 @@
 ghost use Rattle.std.specs.Prelude.{◌≡◌, [], Some, Ok, IfOk, IfErr, IfSome};
 ghost use Rattle.tree_text_rules.specs.Read.{charge_of};
 ghost use Rattle.branch_tree.specs.View.{end_of};
-ghost use Rattle.tree_rules.specs.Known.{KnowsEnd};
-ghost use Rattle.problem_rules.specs.Problem.{Problem};
-ghost use Rattle.tree_rules.specs.Tree as trees;
-ghost use Rattle.tree_rules.specs.Tree.{HasChildren};
+ghost use Rattle.tree_text_rules.specs.tree_rules.Known.{KnowsEnd};
+ghost use Rattle.tree_text_rules.specs.problem_rules.Problem.{Problem};
+ghost use Rattle.tree_text_rules.specs.tree_rules.Tree as trees;
+ghost use Rattle.tree_text_rules.specs.tree_rules.Tree.{HasChildren};
 ghost use Rattle.tree_text_rules.specs.LineRead as reads;
 ghost use Rattle.tree_text_rules.specs.Token as rules;
 ghost use Rattle.tree_reading.specs.Apart.{formed_by};
@@ -18,9 +18,7 @@ use crate::line_fault::LineFault;
 use crate::list::numbers_of;
 use crate::name::{exclusion_of, material_of, one_material, one_unit};
 use crate::number::children_of;
-use branch_tree::{End, Multipliers, Scaled};
-use pgraph::Covers;
-use pns_problem::Problem;
+use branch_tree::{Covers, End, Multipliers, Problem, Scaled};
 use std::alloc::Global;
 use tree_text_rules::{TreeKind, Word};
 

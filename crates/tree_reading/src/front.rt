@@ -1,6 +1,6 @@
 //! The head of a tree: the lines before the first node.
 ghost use Rattle.std.specs.Prelude.{◌≡◌, ◌<◌, ◌-◌, ◌^◌, None, Ok, IfOk, IfErr, length};
-ghost use Rattle.tree_rules.specs.HeadKnown.{KnowsLine, KnowsHead};
+ghost use Rattle.tree_text_rules.specs.tree_rules.HeadKnown.{KnowsLine, KnowsHead};
 ghost use Rattle.branch_tree.specs.HeadView.{line_of, lines_of};
 ghost use Rattle.tree_text_rules.specs.LineRead.{sets_of};
 ghost use Rattle.tree_text_rules.specs.Read.{front_taken};
@@ -14,9 +14,7 @@ use crate::cut::{Cut, line_at};
 use crate::fault::TreeFault;
 use crate::front_line::front_line;
 use crate::node::read_sets;
-use pgraph::Covers;
-use branch_tree::HeadLine;
-use pns_problem::Problem;
+use branch_tree::{Covers, HeadLine, Problem};
 use std::alloc::Global;
 
 // The line that was read, with the sets that follow it if it may have some, and the place after

@@ -1,7 +1,7 @@
 //! The lines of the head of a tree, without the sets that may follow one.
 ghost use Rattle.std.specs.Prelude.{◌≡◌, [], Ok, IfOk, IfErr, IfSome};
-ghost use Rattle.tree_rules.specs.Head as heads;
-ghost use Rattle.tree_rules.specs.HeadKnown.{KnowsLine};
+ghost use Rattle.tree_text_rules.specs.tree_rules.Head as heads;
+ghost use Rattle.tree_text_rules.specs.tree_rules.HeadKnown.{KnowsLine};
 ghost use Rattle.branch_tree.specs.HeadView as views;
 ghost use Rattle.tree_text_rules.specs.LineRead as reads;
 ghost use Rattle.tree_text_rules.specs.Token as rules;
@@ -18,10 +18,7 @@ use crate::line_fault::LineFault;
 use crate::name::{material_of, one_unit, unit_of};
 use crate::number::weight_of;
 use crate::steps::step_line;
-use branch_tree::Scaled;
-use pgraph::Covers;
-use branch_tree::HeadLine;
-use pns_problem::Problem;
+use branch_tree::{Covers, HeadLine, Problem, Scaled};
 use std::alloc::Global;
 use tree_text_rules::{TreeKind, Word};
 

@@ -1,8 +1,8 @@
 //! The head of a node: the line that begins it, and its steps.
 ghost use Rattle.std.specs.Prelude.{◌≡◌, ◌<◌, ◌-◌, ◌^◌, [], Ok, IfOk, IfErr, length, map};
-ghost use Rattle.problem_rules.specs.Each.{Each};
-ghost use Rattle.pgraph.specs.View.{step_of};
-ghost use Rattle.tree_rules.specs.Known.{AreUnits, KnowsStep};
+ghost use Rattle.tree_text_rules.specs.problem_rules.Each.{Each};
+ghost use Rattle.branch_tree.specs.pgraph.View.{step_of};
+ghost use Rattle.tree_text_rules.specs.tree_rules.Known.{AreUnits, KnowsStep};
 ghost use Rattle.tree_text_rules.specs.LineRead.{option_read};
 ghost use Rattle.tree_text_rules.specs.Read.{head_taken, steps_taken};
 ghost use Rattle.tree_reading.specs.Gives.{GivesAt};
@@ -15,9 +15,8 @@ use crate::cut::{Cut, line_at, next_line};
 use crate::fault::{TreeFault, at_line};
 use crate::node_line::option_line;
 use crate::steps::step_line;
-use pns_problem::Problem;
+use branch_tree::{Problem, Step, UnitSet};
 use std::alloc::Global;
-use unit_sets::{Step, UnitSet};
 
 /// The steps from this place on, and the place before the first line that is no step.
 pub fn read_steps(

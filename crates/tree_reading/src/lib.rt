@@ -45,6 +45,7 @@ mod unit_list;
 mod word;
 
 pub use apart::{LineParts, parts_of};
+pub use branch_tree::{Claim, MatSet, Network, Problem, Site, Tree, UnitSet};
 pub use claim::read_network;
 pub use cut::{Cut, line_at};
 pub use ends::end_line;
@@ -57,3 +58,5 @@ pub use node::read_end;
 pub use number::{children_of, one_count};
 pub use tail::read_tail;
 pub use text::{Headed, read_headed, read_rest, read_tree};
+pub use text_lines::amount;
+pub use tree_text_rules::{LineWhy, TreeKind, Why};

@@ -1,6 +1,6 @@
 //! Lists of numbers.
 ghost use Rattle.std.specs.Prelude.{◌≡◌, Ok, IfOk, IfErr};
-ghost use Rattle.integer_laws.specs.Range.{AllInRange};
+ghost use Rattle.tree_text_rules.specs.integer_laws.Range.{AllInRange};
 ghost use Rattle.tree_text_rules.specs.Token as rules;
 ghost use Rattle.text_lines.specs.Tells.{TellsLine};
 ghost use Rattle.tree_reading.specs.View.{tokens_in};

@@ -5,7 +5,7 @@ ghost use Rattle.tree_text_rules.specs.Token as rules;
 ghost use Rattle.tree_reading.specs.View.{tokens_in};
 
 use crate::apart::only;
-use pns_problem::Problem;
+use branch_tree::Problem;
 use std::str;
 use tree_text_rules::TreeKind;
 

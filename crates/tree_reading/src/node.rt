@@ -1,10 +1,10 @@
 //! One node with its end.
 ghost use Rattle.std.specs.Prelude.{◌≡◌, ◌<◌, ◌≤◌, ◌-◌, ◌^◌, [], Ok, IfOk, IfErr, IfSome, length};
-ghost use Rattle.problem_rules.specs.Each.{Each};
-ghost use Rattle.pgraph.specs.CoversView.{covers_of};
+ghost use Rattle.tree_text_rules.specs.problem_rules.Each.{Each};
+ghost use Rattle.branch_tree.specs.pgraph.CoversView.{covers_of};
 ghost use Rattle.branch_tree.specs.View.{end_of};
-ghost use Rattle.tree_rules.specs.Known.{AreUnits, KnowsCover, KnowsEnd};
-ghost use Rattle.tree_rules.specs.Tree.{HasChildren};
+ghost use Rattle.tree_text_rules.specs.tree_rules.Known.{AreUnits, KnowsCover, KnowsEnd};
+ghost use Rattle.tree_text_rules.specs.tree_rules.Tree.{HasChildren};
 ghost use Rattle.tree_text_rules.specs.Read.{charge_of, covers_taken, end_behind, end_taken};
 ghost use Rattle.tree_reading.specs.Gives.{GivesNode};
 ghost use Rattle.tree_reading.specs.Place.{IsCut, IsReached, IsBehind, lines_at};
@@ -17,11 +17,8 @@ use crate::ends::end_line;
 use crate::fault::{TreeFault, at_line};
 use crate::head::read_steps;
 use crate::sets::set_line;
-use branch_tree::{End, Steps, TreeNode};
-use pgraph::{Cover, Covers};
-use pns_problem::Problem;
+use branch_tree::{Cover, Covers, End, Problem, Steps, TreeNode, UnitSet};
 use std::alloc::Global;
-use unit_sets::UnitSet;
 
 // How many sets may follow one charge.
 const MOST_SETS: usize = 1_000_000;

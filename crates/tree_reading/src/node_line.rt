@@ -1,14 +1,13 @@
 //! The lines that begin nodes.
 ghost use Rattle.std.specs.Prelude.{◌≡◌, [], Ok, Err, IfOk, IfErr};
-ghost use Rattle.tree_rules.specs.Known.{AreUnits};
+ghost use Rattle.tree_text_rules.specs.tree_rules.Known.{AreUnits};
 ghost use Rattle.tree_text_rules.specs.LineRead as reads;
 ghost use Rattle.tree_reading.specs.View.{tokens_in};
 
 use crate::apart::{LineParts, alone};
 use crate::unit_list::units_of;
-use pns_problem::Problem;
+use branch_tree::{Problem, UnitSet};
 use tree_text_rules::{TreeKind, Word};
-use unit_sets::UnitSet;
 
 /// The option of the node that a line begins.
 pub fn option_line(problem: &Problem, line: &LineParts) -> Result<UnitSet, TreeKind>

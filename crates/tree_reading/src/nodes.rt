@@ -1,8 +1,8 @@
 //! A whole tree.
 ghost use Rattle.std.specs.Prelude.{◌≡◌, ◌<◌, ◌≤◌, ◌+◌, ◌-◌, ◌^◌, [], zero, Ok, IfOk, IfErr};
 ghost use Rattle.std.specs.Prelude.{length};
-ghost use Rattle.tree_rules.specs.Known.{KnowsTree};
-ghost use Rattle.tree_rules.specs.Tree as trees;
+ghost use Rattle.tree_text_rules.specs.tree_rules.Known.{KnowsTree};
+ghost use Rattle.tree_text_rules.specs.tree_rules.Tree as trees;
 ghost use Rattle.tree_text_rules.specs.Read.{tree_taken};
 ghost use Rattle.tree_reading.specs.Gives.{GivesAt, begun};
 ghost use Rattle.tree_reading.specs.Place.{IsCut, IsBehind, lines_at};
@@ -15,10 +15,8 @@ use crate::fault::{TreeFault, at_line};
 use crate::head::read_option;
 use crate::node::read_node;
 use crate::node_line::root_line;
-use branch_tree::{Tree, TreeNode};
-use pns_problem::Problem;
+use branch_tree::{Problem, Tree, TreeNode, UnitSet};
 use std::alloc::Global;
-use unit_sets::UnitSet;
 
 // How many subtrees are left after a node, if `pending` were left before its children.
 fn more_subtrees(pending: u64, node: &TreeNode) -> u64

@@ -1,6 +1,6 @@
 //! Whole numbers.
 ghost use Rattle.std.specs.Prelude.{◌≡◌, ◌≤◌, ◌≤ℤ◌, pos, IfOk, IfSome};
-ghost use Rattle.integer_laws.specs.Range.{InRange};
+ghost use Rattle.tree_text_rules.specs.integer_laws.Range.{InRange};
 ghost use Rattle.tree_text_rules.specs.LineRead.{one};
 ghost use Rattle.tree_text_rules.specs.Token as rules;
 ghost use Rattle.tree_reading.specs.View.{tokens_in};

@@ -1,7 +1,7 @@
 //! Places at which a number is out of range.
 ghost use Rattle.std.specs.Prelude.{◌≡◌, IfOk};
-ghost use Rattle.flow_rules.specs.declared.place.Place.TheVariants as places;
-ghost use Rattle.tree_rules.specs.Known.{KnowsPlace};
+ghost use Rattle.tree_text_rules.specs.flow_rules.declared.place.Place.TheVariants as places;
+ghost use Rattle.tree_text_rules.specs.tree_rules.Known.{KnowsPlace};
 ghost use Rattle.tree_text_rules.specs.LineRead as reads;
 ghost use Rattle.tree_text_rules.specs.Token as rules;
 ghost use Rattle.tree_reading.specs.View.{tokens_in};
@@ -11,9 +11,8 @@ use crate::column::{column_of, flow_of, row_of, which_of};
 use crate::fault_order::both;
 use crate::name::unit_of;
 use crate::number::{count_of, one_count};
-use flow_rules::Place;
-use pns_problem::Problem;
-use tree_text_rules::TreeKind;
+use branch_tree::Problem;
+use tree_text_rules::{Place, TreeKind};
 
 fn entry_of(problem: &Problem, fields: Option<&[u8]>) -> Result<Place, TreeKind>
     ensures value { result ≡ reads.entry_of problem.now (tokens_in fields.entry) }

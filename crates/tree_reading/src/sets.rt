@@ -1,7 +1,7 @@
 //! The lines of the sets of a charge.
 ghost use Rattle.std.specs.Prelude.{◌≡◌, [], Some, IfOk, IfSome, option_map};
-ghost use Rattle.pgraph.specs.CoversView.{cover_of};
-ghost use Rattle.tree_rules.specs.Known.{IsUnit, AreUnits, KnowsCover};
+ghost use Rattle.branch_tree.specs.pgraph.CoversView.{cover_of};
+ghost use Rattle.tree_text_rules.specs.tree_rules.Known.{IsUnit, AreUnits, KnowsCover};
 ghost use Rattle.tree_text_rules.specs.LineRead as reads;
 ghost use Rattle.tree_text_rules.specs.Token as rules;
 ghost use Rattle.tree_reading.specs.Apart.{formed_by, formed_if_read};
@@ -12,10 +12,8 @@ use crate::fault_order::both;
 use crate::name::unit_of;
 use crate::number::weight_of;
 use crate::unit_list::units_of;
-use pgraph::Cover;
-use pns_problem::Problem;
+use branch_tree::{Cover, Problem, UnitSet};
 use tree_text_rules::{TreeKind, Word};
-use unit_sets::UnitSet;
 
 // The units of a set, at least one.
 fn some_units(problem: &Problem, fields: Option<&[u8]>) -> Result<UnitSet, TreeKind>

@@ -1,7 +1,7 @@
 //! The lines of steps.
 ghost use Rattle.std.specs.Prelude.{◌≡◌, Some, IfOk, IfSome, option_map};
-ghost use Rattle.pgraph.specs.View.{step_of};
-ghost use Rattle.tree_rules.specs.Known.{KnowsStep};
+ghost use Rattle.branch_tree.specs.pgraph.View.{step_of};
+ghost use Rattle.tree_text_rules.specs.tree_rules.Known.{KnowsStep};
 ghost use Rattle.tree_text_rules.specs.LineRead as reads;
 ghost use Rattle.tree_text_rules.specs.Token as rules;
 ghost use Rattle.tree_reading.specs.Apart.{formed_by, formed_if_read};
@@ -11,9 +11,8 @@ use crate::apart::{LineParts, pair};
 use crate::fault_order::both;
 use crate::name::{material_of, one_material, one_unit, unit_of};
 use crate::unit_list::units_of;
-use pns_problem::Problem;
+use branch_tree::{Problem, Step};
 use tree_text_rules::{TreeKind, Word};
-use unit_sets::Step;
 
 // The step of a line that begins as one.
 #[tactic(auto, using(crate::proofs::Counted::not_two))]

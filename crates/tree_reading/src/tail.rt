@@ -1,7 +1,7 @@
 //! Tails, and the last line.
 ghost use Rattle.std.specs.Prelude.{◌≡◌, ◌<◌, ◌-◌, ◌^◌, Ok, IfOk, IfErr, length};
 ghost use Rattle.branch_tree.specs.View.{tail_of};
-ghost use Rattle.tree_rules.specs.Known.{KnowsTail};
+ghost use Rattle.tree_text_rules.specs.tree_rules.Known.{KnowsTail};
 ghost use Rattle.tree_text_rules.specs.Read.{nothing_behind, tail_taken, past_taken, close_taken};
 ghost use Rattle.tree_reading.specs.Gives.{Gives};
 ghost use Rattle.tree_reading.specs.Place.{IsCut, lines_at};
@@ -12,8 +12,7 @@ use crate::cut::{Cut, line_at, next_line};
 use crate::fault::{TreeFault, at_line, kind_at};
 use crate::opening::TailOpening;
 use crate::tail_line::{close_line, nonbasic_line, place_line, tail_opening_line};
-use branch_tree::{Columns, Tail};
-use pns_problem::Problem;
+use branch_tree::{Columns, Problem, Tail};
 use std::alloc::Global;
 use tree_text_rules::TreeKind;
 

@@ -1,7 +1,7 @@
 //! The lines of tails.
 ghost use Rattle.std.specs.Prelude.{◌≡◌, Some, Ok, Err, IfOk, IfErr};
-ghost use Rattle.problem_rules.specs.Each.{Each};
-ghost use Rattle.tree_rules.specs.Known.{KnowsColumn, KnowsPlace};
+ghost use Rattle.tree_text_rules.specs.problem_rules.Each.{Each};
+ghost use Rattle.tree_text_rules.specs.tree_rules.Known.{KnowsColumn, KnowsPlace};
 ghost use Rattle.tree_text_rules.specs.LineRead as reads;
 ghost use Rattle.tree_reading.specs.Apart.{formed_by, tail_opening_of};
 ghost use Rattle.text_lines.specs.Tells.{TellsLine};
@@ -14,10 +14,9 @@ use crate::line_fault::LineFault;
 use crate::number::{count_of, one_count, options_of};
 use crate::opening::TailOpening;
 use crate::place::place_of;
-use flow_rules::{Column, Place};
-use pns_problem::Problem;
+use branch_tree::Problem;
 use std::alloc::Global;
-use tree_text_rules::{TreeKind, Word};
+use tree_text_rules::{Column, Place, TreeKind, Word};
 
 /// What the first line of a tail says.
 #[tactic(auto, using(crate::proofs::Counted::not_alone, crate::proofs::Counted::not_two))]

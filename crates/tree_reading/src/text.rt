@@ -1,7 +1,7 @@
 //! Whole texts.
 ghost use Rattle.std.specs.Prelude.{◌≡◌, ◌<◌, ◌≤◌, ◌-◌, ◌^◌, Ok, IfOk, IfErr, length};
 ghost use Rattle.branch_tree.specs.View.{claim_of, tail_of};
-ghost use Rattle.tree_rules.specs.Known.{KnowsClaim, KnowsTree, KnowsTail};
+ghost use Rattle.tree_text_rules.specs.tree_rules.Known.{KnowsClaim, KnowsTree, KnowsTail};
 ghost use Rattle.tree_text_rules.specs.Read.{rest_taken, read_text};
 ghost use Rattle.tree_text_rules.specs.Read.{headed_rest_taken, read_headed_text};
 ghost use Rattle.tree_reading.specs.Place.{IsCut, lines_at};
@@ -16,9 +16,7 @@ use crate::fault::{TreeFault, at_line, kind_at};
 use crate::front::read_front;
 use crate::nodes::read_whole;
 use crate::tail::read_tail;
-use branch_tree::{Claim, Tail, Tree};
-use branch_tree::Head;
-use pns_problem::Problem;
+use branch_tree::{Claim, Head, Problem, Tail, Tree};
 use std::alloc::Global;
 use tree_text_rules::TreeKind;
 

@@ -1,14 +1,13 @@
 //! Sets of units, which are in file order.
 ghost use Rattle.std.specs.Prelude.{◌≡◌, ◌&&◌, Ok, Err, IfOk, IfErr, nat_le};
-ghost use Rattle.tree_rules.specs.Known.{AreUnits};
+ghost use Rattle.tree_text_rules.specs.tree_rules.Known.{AreUnits};
 ghost use Rattle.tree_text_rules.specs.Token as rules;
 ghost use Rattle.tree_reading.specs.View.{tokens_in};
 
 use crate::line::first_token;
 use crate::name::unit_of;
-use pns_problem::Problem;
+use branch_tree::{Problem, UnitSet};
 use tree_text_rules::TreeKind;
-use unit_sets::UnitSet;
 
 // Whether units rise with one more: they rise without it (`rises`), and `least` is the least number
 // above them.

@@ -15,12 +15,11 @@ use Rattle.std.proofs.Common.{◌≡◌, ℕ, ◌<◌, ◌==◌, ℤ, pos, negsu
 use Rattle.std.proofs.Common.{◌∷◌, None, refl, sym, subst, arith, inl, inr}
 use Rattle.std.proofs.lemmas.Bool.{cases_Bool, or_left, or_cases, and_from, and_parts, eqb-true}
 use Rattle.std.proofs.lemmas.Int.{ints}
-use Rattle.number_sets.specs.Sets.{has, any_below, listed}
-use Rattle.number_sets.proofs.SetLemmas.{any_below-from, has_below}
-use Rattle.pns_rules.specs.Structure.{is_made, is_used, mats, IsBetween}
-use Rattle.pns_rules.specs.Nodes.{Node}
-use Rattle.pns_rules.proofs.StructureLemmas.{is_made-some, is_used-from}
-use Rattle.pns_rules.proofs.DecideLemmas.{structure_if}
+use Rattle.flow_rules.specs.number_sets.Sets.{has, any_below, listed}
+use Rattle.flow_rules.proofs.number_sets.Cited.{any_below-from, has_below}
+use Rattle.flow_rules.specs.pns_rules.Structure.{is_made, is_used, mats, IsBetween}
+use Rattle.flow_rules.specs.pns_rules.Nodes.{Node}
+use Rattle.flow_rules.proofs.pns_rules.Cited.{is_made-some, is_used-from, structure_if}
 use Rattle.flow_rules.specs.ChargeFacts.{own_facts}
 use Rattle.flow_rules.specs.Cover.{Cover, IsCover, Covers, IsFree}
 use Rattle.flow_rules.specs.ChargeSteps.{charge_steps}

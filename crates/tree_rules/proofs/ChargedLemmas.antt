@@ -2,16 +2,16 @@
 use Rattle.std.proofs.Common.{◌≡◌, inl, inr, subst, arith, pos, ℤ, ◌*ℤ◌, ◌≤ℤ◌, ◌<ℤ◌, List, [], ◌∷◌}
 use Rattle.std.specs.Prelude.{Option, Some, None}
 use Rattle.std.proofs.lemmas.Int.{ints}
-use Rattle.integer_laws.proofs.Ring.{ring_z}
-use Rattle.integer_laws.proofs.Order.{mul-le_left, mul-le_right, mul-lt_left, cancel_le}
-use Rattle.pns_rules.specs.Shape.{Shape, shape_of}
-use Rattle.pns_rules.specs.Nodes.{Node}
+use Rattle.flow_rules.proofs.integer_laws.Cited.{ring_z, mul-le_left, mul-le_right, mul-lt_left}
+use Rattle.flow_rules.proofs.integer_laws.Cited.{cancel_le}
+use Rattle.flow_rules.specs.pns_rules.Shape.{Shape, shape_of}
+use Rattle.flow_rules.specs.pns_rules.Nodes.{Node}
 use Rattle.flow_rules.specs.Net.{net_of}
 use Rattle.flow_rules.specs.Flows.{cost}
 use Rattle.flow_rules.specs.Cover.{Cover}
 use Rattle.flow_rules.specs.ChargeLeaf.{IsScale, CoversPass, multiplier, charge_of, ChargeReaches}
 use Rattle.flow_rules.specs.ChargeLaws.{AreCovers}
-use Rattle.flow_rules.proofs.ChargeDualityLemmas.{charge_duality, charge_refutes}
+use Rattle.flow_rules.proofs.Cited.{charge_duality, charge_refutes}
 use Rattle.tree_rules.specs.Claim.{CostOver, IsAtLeast}
 use Rattle.tree_rules.specs.Costs.{HasFallen}
 use Rattle.tree_rules.specs.Leaf.{IsClaimed}

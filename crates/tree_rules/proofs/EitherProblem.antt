@@ -1,8 +1,9 @@
 -- A problem in which three units make one material: U1 and U3 make C of A, U2 makes C of B, and U4
 -- makes the product P of C.
 use Rattle.std.proofs.Common.{ℕ, pos, List, [], ◌∷◌, refl}
-use Rattle.problem_rules.specs.Problem.{Problem, Term, raw_material, intermediate, product}
-use Rattle.problem_rules.specs.Validity.{IsValid}
+use Rattle.flow_rules.specs.problem_rules.Problem.{Problem, Term, raw_material, intermediate}
+use Rattle.flow_rules.specs.problem_rules.Problem.{product}
+use Rattle.flow_rules.specs.problem_rules.Validity.{IsValid}
 
 -- at one unit of mass for each unit of size
 abbrev term_of : ℕ → List Term

@@ -3,13 +3,12 @@
 -- and the first fault of each.
 use Rattle.std.proofs.Common.{◌≡◌, ℕ, ◌<◌, ℤ, pos, ◌*ℤ◌, ◌≤ℤ◌, true, false, List, [], ◌∷◌, refl}
 use Rattle.std.proofs.Common.{arith, inl, inr}
-use Rattle.number_sets.specs.Sets.{has, listed}
-use Rattle.number_sets.proofs.SetLemmas.{has_below}
-use Rattle.pns_rules.specs.Shape.{Shape, shape_of, IsProper}
-use Rattle.pns_rules.specs.Structure.{mats}
-use Rattle.pns_rules.specs.Nodes.{Node, Step, sole, after}
-use Rattle.pns_rules.proofs.ProperLemmas.{proper_if_valid}
-use Rattle.pns_rules.proofs.DecideLemmas.{structure_if, allowed_if}
+use Rattle.flow_rules.specs.number_sets.Sets.{has, listed}
+use Rattle.flow_rules.proofs.number_sets.Cited.{has_below}
+use Rattle.flow_rules.specs.pns_rules.Shape.{Shape, shape_of, IsProper}
+use Rattle.flow_rules.specs.pns_rules.Structure.{mats}
+use Rattle.flow_rules.specs.pns_rules.Nodes.{Node, Step, sole, after}
+use Rattle.flow_rules.proofs.pns_rules.Cited.{proper_if_valid, structure_if, allowed_if}
 use Rattle.flow_rules.specs.Net.{Net, net_of, low_end, high_end}
 use Rattle.flow_rules.specs.Flows.{IsFlows, balance}
 use Rattle.flow_rules.specs.Relaxed.{bound}

@@ -1,9 +1,9 @@
 -- Changes of the example's tree and of its claim, and the first fault of each.
 use Rattle.std.proofs.Common.{◌≡◌, ℕ, ℤ, pos, ◌≤ℤ◌, false, List, [], ◌∷◌, refl, subst, inl, inr}
 use Rattle.std.proofs.Common.{None}
-use Rattle.number_sets.specs.Sets.{has, listed}
-use Rattle.pns_rules.specs.Nodes.{starve, loose, sole, child}
-use Rattle.pns_rules.proofs.DecideLemmas.{structure_if, allowed_if}
+use Rattle.flow_rules.specs.number_sets.Sets.{has, listed}
+use Rattle.flow_rules.specs.pns_rules.Nodes.{starve, loose, sole, child}
+use Rattle.flow_rules.proofs.pns_rules.Cited.{structure_if, allowed_if}
 use Rattle.flow_rules.specs.Relaxed.{bound}
 use Rattle.flow_rules.specs.BoundSteps.{bound_steps}
 use Rattle.flow_rules.specs.CostSteps.{cost_steps}

@@ -7,8 +7,8 @@
 use Rattle.std.proofs.Common.{◌≡◌, ℤ, pos, negsuc, true, false, List, [], ◌∷◌, refl, arith, inl}
 use Rattle.std.proofs.Common.{inr, map}
 use Rattle.std.specs.Prelude.{Option, Some}
-use Rattle.number_sets.specs.Sets.{listed}
-use Rattle.pns_rules.specs.Nodes.{Node, sole}
+use Rattle.flow_rules.specs.number_sets.Sets.{listed}
+use Rattle.flow_rules.specs.pns_rules.Nodes.{Node, sole}
 use Rattle.flow_rules.specs.Net.{Net, net_of}
 use Rattle.flow_rules.specs.ChargeFacts.{Facts}
 use Rattle.flow_rules.specs.ChargeSteps.{charge_steps}
@@ -21,7 +21,8 @@ use Rattle.tree_rules.specs.Trim.{MayTrim}
 use Rattle.tree_rules.specs.Head.{HeadLine, step, cap, out, trim, Known, known_first, with_in}
 use Rattle.tree_rules.specs.Head.{with_least, after_lines, LinesPass}
 use Rattle.tree_rules.proofs.HeadExampleProblem.{example}
-use Rattle.tree_rules.proofs.HeadWorked.{in_range, at_most, not_at_most, EachBelow, each_below, no_case}
+use Rattle.tree_rules.proofs.HeadWorked.{in_range, at_most, not_at_most, EachBelow, each_below}
+use Rattle.tree_rules.proofs.HeadWorked.{no_case}
 
 abbrev pub net : Net
 net = net_of example

@@ -2,8 +2,9 @@
 -- the product P of C, U4 makes P of E, which nothing makes, and U5 makes F of B, which nothing
 -- uses.
 use Rattle.std.proofs.Common.{ℕ, pos, List, [], ◌∷◌, refl}
-use Rattle.problem_rules.specs.Problem.{Problem, Term, raw_material, intermediate, product}
-use Rattle.problem_rules.specs.Validity.{IsValid}
+use Rattle.flow_rules.specs.problem_rules.Problem.{Problem, Term, raw_material, intermediate}
+use Rattle.flow_rules.specs.problem_rules.Problem.{product}
+use Rattle.flow_rules.specs.problem_rules.Validity.{IsValid}
 
 -- at one unit of mass for each unit of size
 abbrev term_of : ℕ → List Term

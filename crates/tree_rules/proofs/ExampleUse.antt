@@ -8,8 +8,8 @@
 use Rattle.std.proofs.Common.{◌≡◌, ℤ, pos, negsuc, ◌<ℤ◌, List, [], ◌∷◌, refl, arith, inl, inr}
 use Rattle.std.specs.Prelude.{Some}
 use Rattle.std.proofs.lemmas.Int.{ints}
-use Rattle.number_sets.specs.Sets.{listed}
-use Rattle.pns_rules.specs.Nodes.{sole}
+use Rattle.flow_rules.specs.number_sets.Sets.{listed}
+use Rattle.flow_rules.specs.pns_rules.Nodes.{sole}
 use Rattle.flow_rules.specs.ChargeFacts.{Demand}
 use Rattle.flow_rules.specs.ChargeSteps.{charge_steps}
 use Rattle.flow_rules.specs.ChargeLeaf.{charge_of}

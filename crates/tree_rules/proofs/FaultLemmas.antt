@@ -1,8 +1,8 @@
 -- Lines that pass have no fault, and what fails does so for one cause.
 use Rattle.std.proofs.Common.{◌≡◌, ℕ, zero, suc, [], ◌∷◌, sym, ap, ◌∙◌, refl}
 use Rattle.std.specs.Prelude.{Option}
-use Rattle.problem_rules.specs.Problem.{Problem}
-use Rattle.flow_rules.proofs.LeafLemmas.{holds, one_of, passing_has_no_cause, cause_is_one}
+use Rattle.flow_rules.specs.problem_rules.Problem.{Problem}
+use Rattle.flow_rules.proofs.Cited.{holds, one_of, passing_has_no_cause, cause_is_one}
 use Rattle.tree_rules.specs.Claim.{CostOver, IsAtLeast}
 use Rattle.tree_rules.specs.Leaf.{IsClaimed}
 use Rattle.tree_rules.specs.declared.line_why.LineWhy.{LineWhy}

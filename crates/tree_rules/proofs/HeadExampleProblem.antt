@@ -2,8 +2,9 @@
 -- makes the product P of C. A costs 2 and B 3, U1 10 and 1 for each unit of size, U2 1 and 1 for
 -- each, U3 20 and U4 5. 20 of P are wanted.
 use Rattle.std.proofs.Common.{ℕ, pos, List, [], ◌∷◌, refl}
-use Rattle.problem_rules.specs.Problem.{Problem, Term, raw_material, intermediate, product}
-use Rattle.problem_rules.specs.Validity.{IsValid}
+use Rattle.flow_rules.specs.problem_rules.Problem.{Problem, Term, raw_material, intermediate}
+use Rattle.flow_rules.specs.problem_rules.Problem.{product}
+use Rattle.flow_rules.specs.problem_rules.Validity.{IsValid}
 
 -- at one unit of mass for each unit of size
 abbrev term_of : ℕ → List Term

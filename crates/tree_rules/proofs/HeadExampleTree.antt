@@ -5,12 +5,11 @@
 use Rattle.std.proofs.Common.{◌≡◌, ℕ, ◌<◌, ℤ, pos, negsuc, ◌*ℤ◌, ◌≤ℤ◌, true, false, List, []}
 use Rattle.std.proofs.Common.{◌∷◌, refl, arith, inl, inr}
 use Rattle.std.proofs.lemmas.Int.{ints}
-use Rattle.number_sets.specs.Sets.{has, listed}
-use Rattle.number_sets.proofs.SetLemmas.{has_below}
-use Rattle.pns_rules.specs.Shape.{Shape, shape_of, IsProper}
-use Rattle.pns_rules.specs.Structure.{mats}
-use Rattle.pns_rules.proofs.ProperLemmas.{proper_if_valid}
-use Rattle.pns_rules.proofs.DecideLemmas.{structure_if, allowed_if}
+use Rattle.flow_rules.specs.number_sets.Sets.{has, listed}
+use Rattle.flow_rules.proofs.number_sets.Cited.{has_below}
+use Rattle.flow_rules.specs.pns_rules.Shape.{Shape, shape_of, IsProper}
+use Rattle.flow_rules.specs.pns_rules.Structure.{mats}
+use Rattle.flow_rules.proofs.pns_rules.Cited.{proper_if_valid, structure_if, allowed_if}
 use Rattle.flow_rules.specs.Net.{low_end, high_end}
 use Rattle.flow_rules.specs.Flows.{IsFlows, balance}
 use Rattle.flow_rules.specs.CostSteps.{cost_steps}
@@ -28,12 +27,13 @@ use Rattle.tree_rules.specs.declared.line_why.LineWhy.TheVariants as line_causes
 use Rattle.tree_rules.specs.Head.{step, trim}
 use Rattle.tree_rules.specs.Headed.{head_node, head_facts, LeafPassesBy, HeadPasses, IsAcceptedBy}
 use Rattle.tree_rules.specs.Headed.{LineIsFault, NodeIsFaultBy}
-use Rattle.pns_rules.specs.Nodes.{sole}
+use Rattle.flow_rules.specs.pns_rules.Nodes.{sole}
 use Rattle.tree_rules.proofs.HeadExampleProblem.{example, example_is_valid}
 use Rattle.tree_rules.proofs.ExampleHead.{net, prices, five, one_maker, may_trim_last}
 use Rattle.tree_rules.proofs.ExampleHead.{may_trim_first, may_trim_second, may_trim_third}
 use Rattle.tree_rules.proofs.ExampleHead.{too_early}
-use Rattle.tree_rules.proofs.HeadWorked.{in_range, at_most, not_at_most, EachBelow, each_below, no_case}
+use Rattle.tree_rules.proofs.HeadWorked.{in_range, at_most, not_at_most, EachBelow, each_below}
+use Rattle.tree_rules.proofs.HeadWorked.{no_case}
 use Rattle.tree_rules.proofs.HeadWorked.{no_other}
 
 abbrev g : Shape

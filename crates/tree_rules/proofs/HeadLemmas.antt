@@ -5,20 +5,18 @@ use Rattle.std.proofs.Common.{◌*ℤ◌, ◌≤ℤ◌, ◌<ℤ◌, List, [], �
 use Rattle.std.specs.Prelude.{Option, None}
 use Rattle.std.proofs.lemmas.Int.{ints, by_lt_z}
 use Rattle.std.proofs.lemmas.Bool.{or_cases, cases_Bool, both_ways, false_from_ne_true}
-use Rattle.integer_laws.proofs.Order.{le_trans_z}
-use Rattle.number_sets.specs.Sets.{IsWithin}
-use Rattle.problem_rules.specs.Problem.{Problem}
-use Rattle.problem_rules.specs.Validity.{IsValid}
-use Rattle.pns_rules.specs.Shape.{Shape, shape_of}
-use Rattle.pns_rules.specs.Structure.{IsBetween, InFamily}
-use Rattle.pns_rules.specs.Nodes.{Node}
-use Rattle.pns_rules.proofs.ProperLemmas.{proper_if_valid}
-use Rattle.pns_rules.proofs.StepLemmas.{steps_keep_families}
+use Rattle.flow_rules.proofs.integer_laws.Cited.{le_trans_z}
+use Rattle.flow_rules.specs.number_sets.Sets.{IsWithin}
+use Rattle.flow_rules.specs.problem_rules.Problem.{Problem}
+use Rattle.flow_rules.specs.problem_rules.Validity.{IsValid}
+use Rattle.flow_rules.specs.pns_rules.Shape.{Shape, shape_of}
+use Rattle.flow_rules.specs.pns_rules.Structure.{IsBetween, InFamily}
+use Rattle.flow_rules.specs.pns_rules.Nodes.{Node}
+use Rattle.flow_rules.proofs.pns_rules.Cited.{proper_if_valid, steps_keep_families}
 use Rattle.flow_rules.specs.Net.{million, net_of}
 use Rattle.flow_rules.specs.Relaxed.{stays}
-use Rattle.flow_rules.proofs.NetLemmas.{net_of_valid}
+use Rattle.flow_rules.proofs.Cited.{net_of_valid, own_facts_hold, flows_fit}
 use Rattle.flow_rules.specs.ChargeFacts.{AreFacts, use_of}
-use Rattle.flow_rules.proofs.ChargeDualityLemmas.{own_facts_hold, flows_fit}
 use Rattle.tree_rules.specs.Claim.{CostOver}
 use Rattle.tree_rules.specs.Trim.{trimmed_size}
 use Rattle.tree_rules.specs.Head.{HeadLine, step, cap, out, trim, uses, Known, known_first}

@@ -1,5 +1,6 @@
 mod ChargeTree
 pub mod ChargedLemmas
+pub mod Cited
 mod EitherProblem
 mod EitherTree
 mod ExampleFaults
@@ -17,3 +18,7 @@ mod OpenTree
 pub mod SumLemmas
 pub mod TrimLemmas
 mod Worked
+pub use Rattle.flow_rules.proofs.number_sets as number_sets
+pub use Rattle.flow_rules.proofs.integer_laws as integer_laws
+pub use Rattle.flow_rules.proofs.pns_rules as pns_rules
+pub use Rattle.flow_rules.proofs as flow_rules

@@ -3,7 +3,7 @@
 -- than 55, whichever of that leaf. The bound is written over 2. Without it nothing is known below
 -- the claimed cost.
 use Rattle.std.proofs.Common.{◌≡◌, ℤ, pos, true, false, [], ◌∷◌, Option, Some, None, refl, inl, inr}
-use Rattle.number_sets.specs.Sets.{listed}
+use Rattle.flow_rules.specs.number_sets.Sets.{listed}
 use Rattle.flow_rules.specs.BoundSteps.{bound_steps}
 use Rattle.tree_rules.specs.declared.why.Why.TheVariants as causes
 use Rattle.tree_rules.specs.Ways.{either}

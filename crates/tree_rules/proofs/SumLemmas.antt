@@ -5,11 +5,11 @@ use Rattle.std.specs.Int.{int_max}
 use Rattle.std.specs.List.{AllByRecursion}
 use Rattle.std.proofs.lemmas.Bool.{cases_order}
 use Rattle.std.proofs.lemmas.Int.{ints}
-use Rattle.integer_laws.specs.Total.{total}
-use Rattle.integer_laws.proofs.Order.{le_trans_z, left-le_int_max, right-le_int_max}
-use Rattle.integer_laws.proofs.Totals.{total-le}
-use Rattle.number_sets.specs.Sets.{IsWithin, listed}
-use Rattle.flow_rules.proofs.ListedLemmas.{All-listed, total-sets, within_larger}
+use Rattle.flow_rules.specs.integer_laws.Total.{total}
+use Rattle.flow_rules.proofs.integer_laws.Cited.{le_trans_z, left-le_int_max, right-le_int_max}
+use Rattle.flow_rules.proofs.integer_laws.Cited.{total-le}
+use Rattle.flow_rules.specs.number_sets.Sets.{IsWithin, listed}
+use Rattle.flow_rules.proofs.Cited.{All-listed, total-sets, within_larger}
 use Rattle.tree_rules.specs.Trim.{greatest}
 
 -- ---- what holds of each number of a set

@@ -5,26 +5,25 @@ use Rattle.std.specs.Prelude.{int_lt, Option, Some, None, IfSome}
 use Rattle.std.specs.Int.{int_max}
 use Rattle.std.proofs.lemmas.Int.{ints, clamps, by_lt_z}
 use Rattle.std.proofs.lemmas.Bool.{true_from_ne_false}
-use Rattle.integer_laws.specs.Total.{total}
-use Rattle.integer_laws.proofs.Ring.{ring_z}
-use Rattle.integer_laws.proofs.Order.{sign_cases, mul_nonneg, mul-le_left, mul-le_right}
-use Rattle.integer_laws.proofs.Order.{mul-le_left_neg, le_trans_z, le-int_min, left-le_int_max}
-use Rattle.integer_laws.proofs.Order.{right-le_int_max}
-use Rattle.integer_laws.proofs.Totals.{total-le, total-add, total-mul_right}
-use Rattle.number_sets.specs.Sets.{IsWithin}
-use Rattle.problem_rules.specs.Problem.{Problem}
-use Rattle.pns_rules.specs.Structure.{mats}
-use Rattle.pns_rules.specs.Nodes.{Node}
+use Rattle.flow_rules.specs.integer_laws.Total.{total}
+use Rattle.flow_rules.proofs.integer_laws.Cited.{ring_z, sign_cases, mul_nonneg, mul-le_left}
+use Rattle.flow_rules.proofs.integer_laws.Cited.{mul-le_right}
+use Rattle.flow_rules.proofs.integer_laws.Cited.{mul-le_left_neg, le_trans_z, le-int_min}
+use Rattle.flow_rules.proofs.integer_laws.Cited.{left-le_int_max}
+use Rattle.flow_rules.proofs.integer_laws.Cited.{right-le_int_max, total-le, total-add}
+use Rattle.flow_rules.proofs.integer_laws.Cited.{total-mul_right}
+use Rattle.flow_rules.specs.number_sets.Sets.{IsWithin}
+use Rattle.flow_rules.specs.problem_rules.Problem.{Problem}
+use Rattle.flow_rules.specs.pns_rules.Structure.{mats}
+use Rattle.flow_rules.specs.pns_rules.Nodes.{Node}
 use Rattle.flow_rules.specs.Net.{Net, net_of, million, trillion, size_cost, units_of, low_end}
 use Rattle.flow_rules.specs.Net.{high_end}
 use Rattle.flow_rules.specs.Flows.{IsFlows, balance, cost}
 use Rattle.flow_rules.specs.Relaxed.{stays}
-use Rattle.flow_rules.proofs.ListedLemmas.{All-listed}
-use Rattle.flow_rules.proofs.NetLemmas.{IsNet}
+use Rattle.flow_rules.proofs.Cited.{All-listed, IsNet, rounded_up_most, use_rate_nonneg}
+use Rattle.flow_rules.proofs.Cited.{users_most_nonneg, use_of_under}
 use Rattle.flow_rules.specs.ChargeFacts.{Demand, Facts, AreFacts, Fit, use_rate, use_of}
 use Rattle.flow_rules.specs.Charge.{users_most, at_most}
-use Rattle.flow_rules.proofs.UsefulLemmas.{rounded_up_most, use_rate_nonneg, users_most_nonneg}
-use Rattle.flow_rules.proofs.UsefulLemmas.{use_of_under}
 use Rattle.tree_rules.specs.Claim.{CostOver}
 use Rattle.tree_rules.specs.Trim.{make_rate, makers_most, useful_there, enough_of, outputs}
 use Rattle.tree_rules.specs.Trim.{trimmed_size, MayTrim}

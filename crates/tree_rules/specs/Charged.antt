@@ -1,7 +1,7 @@
 -- Nodes whose charge reaches what is claimed, with facts that are known of the flows.
 use Rattle.std.specs.Prelude.{ℤ, List, Option}
-use Rattle.problem_rules.specs.Problem.{Problem}
-use Rattle.pns_rules.specs.Nodes.{Node}
+use Rattle.flow_rules.specs.problem_rules.Problem.{Problem}
+use Rattle.flow_rules.specs.pns_rules.Nodes.{Node}
 use Rattle.flow_rules.specs.ChargeFacts.{Facts}
 use Rattle.flow_rules.specs.Cover.{Cover}
 use Rattle.flow_rules.specs.ChargeLeaf.{Handed, ChargePasses}

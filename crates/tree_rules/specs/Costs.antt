@@ -1,6 +1,6 @@
 -- Costs: one number over another, compared by cross products.
 use Rattle.std.specs.Prelude.{ℤ, ◌*ℤ◌, ◌≤ℤ◌, Option, Some, None, ℕ, Bool}
-use Rattle.problem_rules.specs.Problem.{Problem}
+use Rattle.flow_rules.specs.problem_rules.Problem.{Problem}
 use Rattle.flow_rules.specs.Net.{net_of}
 use Rattle.flow_rules.specs.Flows.{IsFlows, cost}
 use Rattle.tree_rules.specs.Claim.{CostOver, IsAtLeast}

@@ -1,8 +1,8 @@
 -- The first fault of a tree, and its cause. The nodes are judged in preorder, each by its steps and
 -- then by its end. P says which leaves pass, and F for which cause one does not.
 use Rattle.std.specs.Prelude.{◌≡◌, ◌⊎◌, ℕ, zero, suc, List, [], ◌∷◌, ◌++◌}
-use Rattle.pns_rules.specs.Shape.{Shape}
-use Rattle.pns_rules.specs.Nodes.{Node}
+use Rattle.flow_rules.specs.pns_rules.Shape.{Shape}
+use Rattle.flow_rules.specs.pns_rules.Nodes.{Node}
 use Rattle.tree_rules.specs.declared.why.Why.{Why}
 use Rattle.tree_rules.specs.declared.why.Why.TheVariants.{Step, Options}
 use Rattle.tree_rules.specs.Ways.{width, MayBranch, options_at}

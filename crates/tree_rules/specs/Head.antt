@@ -2,10 +2,10 @@
 -- Each is judged by what is known at its place.
 use Rattle.std.specs.Prelude.{◌≡◌, ℕ, ◌<◌, ◌==◌, ℤ, pos, ◌*ℤ◌, ◌≤ℤ◌, ◌<ℤ◌, true, false, cond, ◌||◌}
 use Rattle.std.specs.Prelude.{List, [], ◌∷◌, Option, Some, IfSome}
-use Rattle.problem_rules.specs.Problem.{Problem}
-use Rattle.pns_rules.specs.Shape.{shape_of}
-use Rattle.pns_rules.specs.Structure.{mats}
-use Rattle.pns_rules.specs.Nodes.{Node, Step, IsPossible, after}
+use Rattle.flow_rules.specs.problem_rules.Problem.{Problem}
+use Rattle.flow_rules.specs.pns_rules.Shape.{shape_of}
+use Rattle.flow_rules.specs.pns_rules.Structure.{mats}
+use Rattle.flow_rules.specs.pns_rules.Nodes.{Node, Step, IsPossible, after}
 use Rattle.flow_rules.specs.Net.{million, trillion, net_of}
 use Rattle.flow_rules.specs.Relaxed.{stays}
 use Rattle.flow_rules.specs.ChargeFacts.{Demand, Facts, own_facts}

@@ -2,10 +2,10 @@
 -- causes of a leaf with the same numbers and covers, in their order.
 use Rattle.std.specs.Prelude.{◌≡◌, ℕ, zero, suc, ◌<◌, ℤ, pos, ◌*ℤ◌, ◌≤ℤ◌, ◌<ℤ◌, true, false, List}
 use Rattle.std.specs.Prelude.{[], ◌∷◌, Option, IfSome}
-use Rattle.problem_rules.specs.Problem.{Problem}
-use Rattle.pns_rules.specs.Shape.{shape_of}
-use Rattle.pns_rules.specs.Structure.{mats}
-use Rattle.pns_rules.specs.Nodes.{Node, IsPossible}
+use Rattle.flow_rules.specs.problem_rules.Problem.{Problem}
+use Rattle.flow_rules.specs.pns_rules.Shape.{shape_of}
+use Rattle.flow_rules.specs.pns_rules.Structure.{mats}
+use Rattle.flow_rules.specs.pns_rules.Nodes.{Node, IsPossible}
 use Rattle.flow_rules.specs.Net.{million, trillion, net_of}
 use Rattle.flow_rules.specs.Relaxed.{stays}
 use Rattle.flow_rules.specs.ChargeFacts.{Demand, Facts}

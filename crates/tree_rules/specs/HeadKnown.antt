@@ -2,9 +2,9 @@
 -- exclusion is below the problem's count. The size of a cap, and the amount of a use and what it is
 -- worth, are in range and not below 0.
 use Rattle.std.specs.Prelude.{ℤ, pos, ◌≤ℤ◌, List}
-use Rattle.integer_laws.specs.Range.{InRange}
-use Rattle.problem_rules.specs.Each.{Each}
-use Rattle.problem_rules.specs.Problem.{Problem}
+use Rattle.flow_rules.specs.integer_laws.Range.{InRange}
+use Rattle.flow_rules.specs.problem_rules.Each.{Each}
+use Rattle.flow_rules.specs.problem_rules.Problem.{Problem}
 use Rattle.tree_rules.specs.Known.{IsUnit, IsMaterial, KnowsStep, KnowsCharge}
 use Rattle.tree_rules.specs.Charged.{handed}
 use Rattle.tree_rules.specs.Head.{HeadLine, step, cap, out, trim, uses}

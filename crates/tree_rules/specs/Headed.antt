@@ -5,9 +5,9 @@
 -- The tree of a whole problem begins at the node that the head leaves. A part of a tree begins at
 -- its own start, and has the head of the whole tree.
 use Rattle.std.specs.Prelude.{◌≡◌, ℕ, Bool, true, false, List, [], ◌∷◌, Option}
-use Rattle.problem_rules.specs.Problem.{Problem}
-use Rattle.pns_rules.specs.Shape.{shape_of}
-use Rattle.pns_rules.specs.Nodes.{Node}
+use Rattle.flow_rules.specs.problem_rules.Problem.{Problem}
+use Rattle.flow_rules.specs.pns_rules.Shape.{shape_of}
+use Rattle.flow_rules.specs.pns_rules.Nodes.{Node}
 use Rattle.flow_rules.specs.ChargeFacts.{Facts}
 use Rattle.flow_rules.specs.ChargeLeaf.{ChargePasses}
 use Rattle.flow_rules.specs.ChargeLeaf as charges

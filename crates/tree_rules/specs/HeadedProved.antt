@@ -1,6 +1,6 @@
 -- What a search promises of a claim with a head and a tree.
 use Rattle.std.specs.Prelude.{◌<◌, ◌-◌, ◌^◌, List, length}
-use Rattle.problem_rules.specs.Problem.{Problem}
+use Rattle.flow_rules.specs.problem_rules.Problem.{Problem}
 use Rattle.tree_rules.specs.Claim as claims
 use Rattle.tree_rules.specs.Claim.{claimed_cost}
 use Rattle.tree_rules.specs.Leaf.{IsUntried}

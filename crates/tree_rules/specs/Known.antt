@@ -3,11 +3,11 @@
 -- most, each with units and a weight that is not below 0.
 use Rattle.std.specs.Prelude.{◌≡◌, ℕ, ◌<◌, ◌≤◌, pos, ◌≤ℤ◌, List, [], length, Option, Some, None}
 use Rattle.std.specs.Prelude.{IfSome}
-use Rattle.number_sets.specs.Sets.{IsSet}
-use Rattle.integer_laws.specs.Range.{InRange, AllInRange}
-use Rattle.problem_rules.specs.Each.{Each}
-use Rattle.problem_rules.specs.Problem.{Problem}
-use Rattle.pns_rules.specs.Nodes as nodes
+use Rattle.flow_rules.specs.number_sets.Sets.{IsSet}
+use Rattle.flow_rules.specs.integer_laws.Range.{InRange, AllInRange}
+use Rattle.flow_rules.specs.problem_rules.Each.{Each}
+use Rattle.flow_rules.specs.problem_rules.Problem.{Problem}
+use Rattle.flow_rules.specs.pns_rules.Nodes as nodes
 use Rattle.flow_rules.specs.declared.place.Column.{Column}
 use Rattle.flow_rules.specs.declared.place.Column.TheVariants.{X, S, T, W, Right, Scale}
 use Rattle.flow_rules.specs.declared.place.Place.{Place}

@@ -7,11 +7,11 @@ use Rattle.std.specs.Prelude.{◌≡◌, ℕ, ℤ, pos, ◌≤ℤ◌, Bool, true
 use Rattle.std.specs.Prelude.{Some}
 use Rattle.std.specs.Prelude.{None}
 use Rattle.std.specs.Prelude.{IfSome}
-use Rattle.problem_rules.specs.Problem.{Problem}
-use Rattle.pns_rules.specs.Shape.{shape_of}
-use Rattle.pns_rules.specs.Structure.{Clashes}
-use Rattle.pns_rules.specs.Nodes.{Node}
-use Rattle.pns_rules.specs.Ends.{IsDead}
+use Rattle.flow_rules.specs.problem_rules.Problem.{Problem}
+use Rattle.flow_rules.specs.pns_rules.Shape.{shape_of}
+use Rattle.flow_rules.specs.pns_rules.Structure.{Clashes}
+use Rattle.flow_rules.specs.pns_rules.Nodes.{Node}
+use Rattle.flow_rules.specs.pns_rules.Ends.{IsDead}
 use Rattle.flow_rules.specs.Net.{net_of, beside}
 use Rattle.flow_rules.specs.Relaxed.{rows, bound, Refutes}
 use Rattle.flow_rules.specs.Steps.{AreInRange}

@@ -2,10 +2,10 @@
 -- `claimed` is the cost that is to be undercut, if there is one. Each node is taken as its steps
 -- leave it.
 use Rattle.std.specs.Prelude.{ℕ, ℤ, ◌*ℤ◌, ◌≤ℤ◌, List, [], ◌∷◌, Option}
-use Rattle.problem_rules.specs.Problem.{Problem}
-use Rattle.pns_rules.specs.Shape.{shape_of}
-use Rattle.pns_rules.specs.Nodes.{Node}
-use Rattle.pns_rules.specs.Ends.{IsDead, IsNever, IsReduced}
+use Rattle.flow_rules.specs.problem_rules.Problem.{Problem}
+use Rattle.flow_rules.specs.pns_rules.Shape.{shape_of}
+use Rattle.flow_rules.specs.pns_rules.Nodes.{Node}
+use Rattle.flow_rules.specs.pns_rules.Ends.{IsDead, IsNever, IsReduced}
 use Rattle.flow_rules.specs.Net.{net_of}
 use Rattle.flow_rules.specs.Relaxed.{IsRelaxed, relaxed_cost}
 use Rattle.tree_rules.specs.Ways.{Way, IsDecision}

@@ -1,9 +1,9 @@
 -- What can be said of the flows of a solution structure. It has flows of least cost, with
 -- multipliers whose bound is that cost. Or it has none, and multipliers refute them.
 use Rattle.std.specs.Prelude.{◌≡◌, ℕ, ◌&&◌, not, nat_lt, ℤ, pos, ◌*ℤ◌, ◌≤ℤ◌, List, length}
-use Rattle.number_sets.specs.Sets.{has}
-use Rattle.problem_rules.specs.Problem.{Problem}
-use Rattle.pns_rules.specs.Nodes.{Node}
+use Rattle.flow_rules.specs.number_sets.Sets.{has}
+use Rattle.flow_rules.specs.problem_rules.Problem.{Problem}
+use Rattle.flow_rules.specs.pns_rules.Nodes.{Node}
 use Rattle.flow_rules.specs.Net.{net_of, beside}
 use Rattle.flow_rules.specs.Flows.{IsFlows, cost}
 use Rattle.flow_rules.specs.Relaxed.{rows, bound, Refutes}

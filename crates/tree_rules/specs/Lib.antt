@@ -23,3 +23,8 @@ pub mod Tail
 pub mod Tree
 pub mod Trim
 pub mod Ways
+pub use Rattle.flow_rules.specs.number_sets as number_sets
+pub use Rattle.flow_rules.specs.integer_laws as integer_laws
+pub use Rattle.flow_rules.specs.problem_rules as problem_rules
+pub use Rattle.flow_rules.specs.pns_rules as pns_rules
+pub use Rattle.flow_rules.specs as flow_rules

@@ -1,9 +1,9 @@
 -- What a tree proves of the costs of all structures of its start, also of those at its open leaves:
 -- the least of the claimed cost and of the bounds of its open leaves.
 use Rattle.std.specs.Prelude.{◌*ℤ◌, int_le, cond, List, [], ◌∷◌, ◌++◌, Option, Some, None}
-use Rattle.problem_rules.specs.Problem.{Problem}
-use Rattle.pns_rules.specs.Shape.{shape_of}
-use Rattle.pns_rules.specs.Nodes.{Node}
+use Rattle.flow_rules.specs.problem_rules.Problem.{Problem}
+use Rattle.flow_rules.specs.pns_rules.Shape.{shape_of}
+use Rattle.flow_rules.specs.pns_rules.Nodes.{Node}
 use Rattle.flow_rules.specs.Net.{net_of}
 use Rattle.flow_rules.specs.Relaxed.{bound}
 use Rattle.tree_rules.specs.Tree.{End, branch, leaf, after_all, below}

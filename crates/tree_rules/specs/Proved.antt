@@ -1,10 +1,10 @@
 -- What a search promises of a claim and its tree, and below which budget it may stop.
 use Rattle.std.specs.Prelude.{ℕ, suc, ◌<◌, ◌-◌, ◌^◌, Bool, false, length}
-use Rattle.number_sets.specs.Sets.{listed}
-use Rattle.problem_rules.specs.Problem.{Problem}
-use Rattle.pns_rules.specs.Shape.{shape_of}
-use Rattle.pns_rules.specs.Structure.{IsUnion}
-use Rattle.pns_rules.specs.Nodes.{Node}
+use Rattle.flow_rules.specs.number_sets.Sets.{listed}
+use Rattle.flow_rules.specs.problem_rules.Problem.{Problem}
+use Rattle.flow_rules.specs.pns_rules.Shape.{shape_of}
+use Rattle.flow_rules.specs.pns_rules.Structure.{IsUnion}
+use Rattle.flow_rules.specs.pns_rules.Nodes.{Node}
 use Rattle.tree_rules.specs.Claim as claims
 use Rattle.tree_rules.specs.Claim.{claimed_cost}
 use Rattle.tree_rules.specs.Leaf.{IsUntried}

@@ -1,7 +1,7 @@
 -- What a refusal says of a claim and a tree. A refusal for lack of memory says nothing.
 use Rattle.std.specs.Prelude.{Bool}
-use Rattle.problem_rules.specs.Problem.{Problem}
-use Rattle.pns_rules.specs.Nodes.{Node}
+use Rattle.flow_rules.specs.problem_rules.Problem.{Problem}
+use Rattle.flow_rules.specs.pns_rules.Nodes.{Node}
 use Rattle.tree_rules.specs.Claim as rules
 use Rattle.tree_rules.specs.Accepted.{Tree, NodeIsFault}
 use Rattle.tree_rules.specs.declared.refusal.Refusal.{Refusal}

@@ -1,11 +1,11 @@
 -- Why a search stops before its end: its budget of nodes is spent, or a number of the simplex
 -- method overflows. `IsOpen` says which leaves are open. Each node is taken as its steps leave it.
 use Rattle.std.specs.Prelude.{◌≡◌, ◌⊎◌, ℕ, ◌+◌, ◌<◌, true, List, [], ◌∷◌, length, Option, None}
-use Rattle.problem_rules.specs.Problem.{Problem}
-use Rattle.pns_rules.specs.Shape.{Shape, shape_of}
-use Rattle.pns_rules.specs.Structure.{is_needed}
-use Rattle.pns_rules.specs.Nodes.{Node, options}
-use Rattle.pns_rules.specs.Ends.{IsSound, IsReduced, IsUndecided}
+use Rattle.flow_rules.specs.problem_rules.Problem.{Problem}
+use Rattle.flow_rules.specs.pns_rules.Shape.{Shape, shape_of}
+use Rattle.flow_rules.specs.pns_rules.Structure.{is_needed}
+use Rattle.flow_rules.specs.pns_rules.Nodes.{Node, options}
+use Rattle.flow_rules.specs.pns_rules.Ends.{IsSound, IsReduced, IsUndecided}
 use Rattle.tree_rules.specs.Tree.{leaf, TreeNode, Stands}
 use Rattle.tree_rules.specs.Claim.{CostOver}
 use Rattle.tree_rules.specs.Lean.{MayUndercut, IsNoDearer}

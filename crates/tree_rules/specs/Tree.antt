@@ -1,8 +1,8 @@
 -- Branch trees, as lists of their nodes in preorder (accelerated branch and bound of Friedler,
 -- Varga, Feher and Fan 1996). L is what the leaves may be.
 use Rattle.std.specs.Prelude.{◌≡◌, ℕ, zero, suc, ◌+◌, ◌<◌, List, [], ◌∷◌, ◌++◌}
-use Rattle.pns_rules.specs.Shape.{Shape}
-use Rattle.pns_rules.specs.Nodes.{Node, Step, IsPossible, after}
+use Rattle.flow_rules.specs.pns_rules.Shape.{Shape}
+use Rattle.flow_rules.specs.pns_rules.Nodes.{Node, Step, IsPossible, after}
 use Rattle.tree_rules.specs.Ways.{Way, width, MayBranch, options_at, children_at}
 
 pub data End (L : Type 0) : Type 0 where

@@ -3,9 +3,9 @@
 use Rattle.std.specs.Prelude.{◌≡◌, ℕ, ◌<◌, ℤ, pos, ◌+ℤ◌, ◌*ℤ◌, ◌≤ℤ◌, ◌<ℤ◌, int_lt, false, List, []}
 use Rattle.std.specs.Prelude.{◌∷◌, map}
 use Rattle.std.specs.Int.{int_max}
-use Rattle.integer_laws.specs.Total.{total}
-use Rattle.number_sets.specs.Sets.{listed}
-use Rattle.pns_rules.specs.Nodes.{Node}
+use Rattle.flow_rules.specs.integer_laws.Total.{total}
+use Rattle.flow_rules.specs.number_sets.Sets.{listed}
+use Rattle.flow_rules.specs.pns_rules.Nodes.{Node}
 use Rattle.flow_rules.specs.Net.{Net, size_cost, low_end, high_end}
 use Rattle.flow_rules.specs.Relaxed.{units}
 use Rattle.flow_rules.specs.ChargeFacts.{Facts}

@@ -2,10 +2,10 @@
 -- that it decides, those of an option are taken in and the others are left out.
 use Rattle.std.specs.Prelude.{◌≡◌, ℕ, ◌<◌, ◌≤◌, Bool, true, not, ◌&&◌, ◌||◌, ◌==◌, List, [], ◌∷◌}
 use Rattle.std.specs.Prelude.{map, length}
-use Rattle.number_sets.specs.Sets.{has}
-use Rattle.pns_rules.specs.Shape.{Shape}
-use Rattle.pns_rules.specs.Structure.{is_needed}
-use Rattle.pns_rules.specs.Nodes.{Node, is_free, options}
+use Rattle.flow_rules.specs.number_sets.Sets.{has}
+use Rattle.flow_rules.specs.pns_rules.Shape.{Shape}
+use Rattle.flow_rules.specs.pns_rules.Structure.{is_needed}
+use Rattle.flow_rules.specs.pns_rules.Nodes.{Node, is_free, options}
 
 -- at a material, with the number of children that are written; or at a unit, which goes in or goes
 -- out

@@ -1,5 +1,5 @@
-use crate::line_why::LineWhy;
 use crate::Why;
+use crate::line_why::LineWhy;
 
 /// Why a claim with a head and a tree is refused.
 #[derive(Clone, Copy, Debug, PartialEq, Eq)]

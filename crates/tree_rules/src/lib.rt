@@ -38,6 +38,10 @@ mod line_why;
 mod refusal;
 mod why;
 
+pub use flow_rules::{
+    Axiom, ChargeWhy, Column, FlowStep, Place, Verdict, Which, relaxed_duality, sums_are_last,
+    valid_is_proper,
+};
 pub use head_refusal::HeadRefusal;
 pub use line_why::LineWhy;
 pub use refusal::Refusal;

@@ -2,8 +2,8 @@
 use Rattle.std.proofs.Common.{◌≡◌, ◌<◌, ◌+◌, ℕ, List, [], ◌∷◌, ◌++◌, length, drop, get_or, refl, ap}
 use Rattle.std.proofs.Common.{◌∙◌, append_assoc}
 use Rattle.std.proofs.lemmas.List.{drop_more}
-use Rattle.problem_rules.specs.Problem.{Problem}
-use Rattle.text_rules.specs.Canonical.{joined}
+use Rattle.tree_text_rules.specs.problem_rules.Problem.{Problem}
+use Rattle.tree_text_rules.specs.text_rules.Canonical.{joined}
 use Rattle.tree_text.specs.Printing.{appended}
 use Rattle.tree_text.specs.Fields.{field_tokens, tokens_of}
 use Rattle.tree_text.specs.declared.line.Field.{Field}

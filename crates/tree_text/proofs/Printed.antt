@@ -8,8 +8,8 @@ use Rattle.std.proofs.lemmas.Result.{err_from_is_err_and}
 use Rattle.std.specs.Result.{IsErrAnd}
 use Rattle.std.specs.Io.KnownBytes.{Appends}
 use Rattle.std.proofs.KnownBytes.{Appends-nil, Appends-trans}
-use Rattle.text_rules.specs.Outside.{HasRisen}
-use Rattle.text_rules.specs.State.{SinkState}
+use Rattle.tree_text_rules.specs.text_rules.Outside.{HasRisen}
+use Rattle.tree_text_rules.specs.text_rules.State.{SinkState}
 use Rattle.tree_text_rules.specs.Line.{Token}
 use Rattle.tree_text_rules.specs.Spelling.{text_of, line_text}
 use Rattle.tree_text.specs.declared.fault.PrintFault.{PrintFault}

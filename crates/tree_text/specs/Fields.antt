@@ -1,10 +1,11 @@
 -- The fields of a line: what each prints, and that its names are those of the problem.
 use Rattle.std.specs.Prelude.{List, [], ◌∷◌, ◌++◌, map, decimal}
 use Rattle.std.specs.Fmt.{signed_decimal}
-use Rattle.problem_rules.specs.Problem.{Problem}
-use Rattle.problem_rules.specs.Each.{Each}
-use Rattle.tree_rules.specs.Known.{IsUnit, IsMaterial, IsExclusion, AreUnits, KnowsColumn}
-use Rattle.tree_rules.specs.Known.{KnowsPlace}
+use Rattle.tree_text_rules.specs.problem_rules.Problem.{Problem}
+use Rattle.tree_text_rules.specs.problem_rules.Each.{Each}
+use Rattle.tree_text_rules.specs.tree_rules.Known.{IsUnit, IsMaterial, IsExclusion, AreUnits}
+use Rattle.tree_text_rules.specs.tree_rules.Known.{KnowsColumn}
+use Rattle.tree_text_rules.specs.tree_rules.Known.{KnowsPlace}
 use Rattle.tree_text_rules.specs.Line.{Token}
 use Rattle.tree_text_rules.specs.Spelling.{unit_name, material_name, exclusion_name, column_text}
 use Rattle.tree_text_rules.specs.Spelling.{place_fields}

@@ -3,8 +3,8 @@
 -- each whole.
 use Rattle.std.specs.Prelude.{◌≡◌, ◌≤◌, ◌++◌, List, Result, Ok, Err}
 use Rattle.std.specs.Io.KnownBytes.{Appends}
-use Rattle.text_rules.specs.Outside.{HasRisen, AppendsFront}
-use Rattle.text_rules.specs.State.{SinkState}
+use Rattle.tree_text_rules.specs.text_rules.Outside.{HasRisen, AppendsFront}
+use Rattle.tree_text_rules.specs.text_rules.State.{SinkState}
 use Rattle.tree_text_rules.specs.Line.{Token}
 use Rattle.tree_text_rules.specs.Spelling.{text_of}
 use Rattle.tree_text.specs.declared.fault.PrintFault.{PrintFault}

@@ -1,17 +1,16 @@
 //! Columns and places after the first word of a line.
 ghost use Rattle.std.specs.Prelude.{◌≡◌, ◌<◌, ◌++◌, [], ◌∷◌, OnOk, codes, decimal, map};
 ghost use Rattle.std.specs.Prelude.{string_bytes};
-ghost use Rattle.problem_rules.specs.Each.{Each};
-ghost use Rattle.tree_rules.specs.Known.{KnowsColumn, KnowsRow, KnowsPlace};
+ghost use Rattle.tree_text_rules.specs.problem_rules.Each.{Each};
+ghost use Rattle.tree_text_rules.specs.tree_rules.Known.{KnowsColumn, KnowsRow, KnowsPlace};
 ghost use Rattle.tree_text_rules.specs.Spelling.{column_text, row_text, which_text, flow_text};
 ghost use Rattle.tree_text_rules.specs.Spelling.{place_fields};
 ghost use Rattle.tree_text.specs.Printing.{appended};
 
 use crate::field::{material_name, push_count, push_field, unit_name};
-use flow_rules::{Column, FlowStep, Place};
-use integer_laws::Which;
-use pns_problem::Problem;
+use flow_program::Problem;
 use std::alloc::AllocError;
+use tree_text_rules::{Column, FlowStep, Place, Which};
 
 // A column of a unit or of a row: its mark and the name.
 fn push_marked(line: &mut String, mark: &str, name: &str) -> Result<(), AllocError>

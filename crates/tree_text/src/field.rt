@@ -3,12 +3,11 @@ ghost use Rattle.std.specs.Prelude.{◌≡◌, ◌<◌, ◌≤◌, [], ◌∷◌
 ghost use Rattle.std.specs.Prelude.{string_bytes};
 ghost use Rattle.std.specs.Fmt.{signed_decimal};
 ghost use Rattle.tree_text_rules.specs.Spelling.{unit_name, material_name, exclusion_name};
-ghost use Rattle.tree_rules.specs.Known.{IsUnit, IsMaterial, IsExclusion, AreUnits};
+ghost use Rattle.tree_text_rules.specs.tree_rules.Known.{IsUnit, IsMaterial, IsExclusion, AreUnits};
 ghost use Rattle.tree_text.specs.Printing.{appended};
 
-use pns_problem::Problem;
+use flow_program::{Problem, UnitSet};
 use std::alloc::AllocError;
-use unit_sets::UnitSet;
 
 /// Begins a line anew by its first word.
 pub fn begin(line: &mut String, word: &str) -> Result<(), AllocError>

@@ -1,7 +1,7 @@
 //! The lines of the head of a tree.
 ghost use Rattle.std.specs.Prelude.{◌≡◌};
-ghost use Rattle.tree_rules.specs.Known.{KnowsTree, KnowsClaim, KnowsTail};
-ghost use Rattle.tree_rules.specs.HeadKnown.{KnowsLine, KnowsHead};
+ghost use Rattle.tree_text_rules.specs.tree_rules.Known.{KnowsTree, KnowsClaim, KnowsTail};
+ghost use Rattle.tree_text_rules.specs.tree_rules.HeadKnown.{KnowsLine, KnowsHead};
 ghost use Rattle.branch_tree.specs.View.{claim_of, tail_of};
 ghost use Rattle.branch_tree.specs.HeadView.{line_of, lines_of};
 ghost use Rattle.tree_text_rules.specs.Spelling.{front_with_sets, front_lines};
@@ -11,10 +11,9 @@ ghost use Rattle.tree_text.specs.Prints.{Puts};
 use crate::fault::PrintFault;
 use crate::line::{Field, put};
 use crate::part::{put_claim, put_covers, put_nodes, put_step, put_tail};
-use branch_tree::{Claim, Tail, Tree};
-use branch_tree::{Head, HeadLine};
+use branch_tree::{Claim, Head, HeadLine, Tail, Tree};
+use flow_program::Problem;
 use pns_io::Sink;
-use pns_problem::Problem;
 
 /// What a text with a head says: the claim, the head, the tree and the tail.
 #[derive(Clone, Copy)]

@@ -22,7 +22,12 @@ mod put;
 
 pub use fault::PrintFault;
 pub use field::{begin, push_count, push_field, push_number, push_numbers};
+pub use flow_program::{CostOver, Mixed, bound_of, sets_of};
 pub use front::Headed;
+pub use pns_io::{
+    Effort, Failed, FileShelf, MemShelf, MemSink, NoWatch, OutSink, Outputs, Progress,
+    ReadAllFault, Shelf, Sink, Watch, read_all,
+};
 pub use print::{
     print_end, print_head, print_headed, print_network, print_place, print_rest, print_tail,
     print_tree,

@@ -1,7 +1,7 @@
 //! Lines of a word and fields, each handed to the sink when it is made.
 ghost use Rattle.std.specs.Prelude.{◌≡◌, ◌∷◌, [], OnOk, string_bytes};
-ghost use Rattle.problem_rules.specs.Each.{Each};
-ghost use Rattle.text_rules.specs.Canonical.{joined};
+ghost use Rattle.tree_text_rules.specs.problem_rules.Each.{Each};
+ghost use Rattle.tree_text_rules.specs.text_rules.Canonical.{joined};
 ghost use Rattle.tree_text.specs.Printing.{appended};
 ghost use Rattle.tree_text.specs.Fields.{KnowsField, field_tokens, tokens_of};
 ghost use Rattle.tree_text.specs.Prints.{Puts};
@@ -13,11 +13,10 @@ use crate::field::{
     push_options, push_units, unit_name,
 };
 use crate::put::put_line;
-use flow_rules::{Column, Place};
+use flow_program::{Problem, UnitSet};
 use pns_io::Sink;
-use pns_problem::Problem;
 use std::alloc::AllocError;
-use unit_sets::UnitSet;
+use tree_text_rules::{Column, Place};
 
 /// What follows the word of a line: a name or a number, or several.
 #[derive(Clone, Copy)]

@@ -1,12 +1,14 @@
 //! The lines of each part, made in one buffer and handed over one after another.
 ghost use Rattle.std.specs.Prelude.{◌≡◌, ◌∷◌, [], map};
-ghost use Rattle.problem_rules.specs.Each.{Each};
-ghost use Rattle.pgraph.specs.View.{step_of};
-ghost use Rattle.tree_rules.specs.Known.{AreUnits, KnowsStep, KnowsCover, KnowsEnd, KnowsNode};
-ghost use Rattle.tree_rules.specs.Known.{KnowsTree, KnowsClaim, KnowsColumn, KnowsPlace, KnowsTail};
-ghost use Rattle.tree_rules.specs.Tree as trees;
-ghost use Rattle.tree_rules.specs.Leaf as leaves;
-ghost use Rattle.pgraph.specs.CoversView.{cover_of, covers_of};
+ghost use Rattle.tree_text_rules.specs.problem_rules.Each.{Each};
+ghost use Rattle.flow_program.specs.pgraph.View.{step_of};
+ghost use Rattle.tree_text_rules.specs.tree_rules.Known.{AreUnits, KnowsStep, KnowsCover, KnowsEnd};
+ghost use Rattle.tree_text_rules.specs.tree_rules.Known.{KnowsNode};
+ghost use Rattle.tree_text_rules.specs.tree_rules.Known.{KnowsTree, KnowsClaim, KnowsColumn};
+ghost use Rattle.tree_text_rules.specs.tree_rules.Known.{KnowsPlace, KnowsTail};
+ghost use Rattle.tree_text_rules.specs.tree_rules.Tree as trees;
+ghost use Rattle.tree_text_rules.specs.tree_rules.Leaf as leaves;
+ghost use Rattle.flow_program.specs.pgraph.CoversView.{cover_of, covers_of};
 ghost use Rattle.branch_tree.specs.View.{end_of, claim_of, tail_of};
 ghost use Rattle.tree_text_rules.specs.Spelling.{step_line, cover_line, end_with_sets, head_lines};
 ghost use Rattle.tree_text_rules.specs.Spelling.{node_lines, tree_lines, network_lines};
@@ -16,11 +18,9 @@ ghost use Rattle.tree_text.specs.Prints.{Puts};
 use crate::fault::PrintFault;
 use crate::line::{Field, put};
 use branch_tree::{Claim, End, Network, Scaled, Tail, Tree, TreeNode};
-use pgraph::{Cover, Covers};
-use flow_rules::{Column, Place};
+use flow_program::{Cover, Covers, Problem, Step, UnitSet};
 use pns_io::Sink;
-use pns_problem::Problem;
-use unit_sets::{Step, UnitSet};
+use tree_text_rules::{Column, Place};
 
 pub(crate) fn put_step<K: Sink>(
     line: &mut String,

@@ -1,10 +1,11 @@
 //! The text of a tree, and of its parts.
 ghost use Rattle.std.specs.Prelude.{◌≡◌, ◌≤◌, [], ◌∷◌, map};
-ghost use Rattle.problem_rules.specs.Each.{Each};
-ghost use Rattle.pgraph.specs.View.{step_of};
-ghost use Rattle.tree_rules.specs.Known.{AreUnits, KnowsStep, KnowsEnd, KnowsTree, KnowsClaim};
-ghost use Rattle.tree_rules.specs.Known.{KnowsColumn, KnowsPlace, KnowsTail};
-ghost use Rattle.tree_rules.specs.HeadKnown.{KnowsHead};
+ghost use Rattle.tree_text_rules.specs.problem_rules.Each.{Each};
+ghost use Rattle.flow_program.specs.pgraph.View.{step_of};
+ghost use Rattle.tree_text_rules.specs.tree_rules.Known.{AreUnits, KnowsStep, KnowsEnd, KnowsTree};
+ghost use Rattle.tree_text_rules.specs.tree_rules.Known.{KnowsClaim};
+ghost use Rattle.tree_text_rules.specs.tree_rules.Known.{KnowsColumn, KnowsPlace, KnowsTail};
+ghost use Rattle.tree_text_rules.specs.tree_rules.HeadKnown.{KnowsHead};
 ghost use Rattle.branch_tree.specs.View.{end_of, claim_of, tail_of};
 ghost use Rattle.tree_text_rules.specs.Spelling.{end_with_sets, head_lines, network_lines};
 ghost use Rattle.tree_text_rules.specs.Spelling.{place_lines, tail_lines, rest_lines};
@@ -16,11 +17,10 @@ use crate::front::{Headed, put_headed};
 use crate::line::put;
 use crate::part::{put_end, put_head, put_network, put_place, put_rest, put_tail};
 use branch_tree::{Claim, End, Network, Tail, Tree};
-use flow_rules::{Column, Place};
+use flow_program::{Problem, Step, UnitSet};
 use pns_io::Sink;
-use pns_problem::Problem;
 use std::alloc::Global;
-use unit_sets::{Step, UnitSet};
+use tree_text_rules::{Column, Place};
 
 /// Prints a claim, a tree and a tail, whole: a text of `tree_text_rules`. `WriteFault` comes only
 /// if the sink's count of faults rose; a front of the text is then printed. If there is no memory,

@@ -1,6 +1,6 @@
 //! Lines handed to the sink one by one.
 ghost use Rattle.std.specs.Prelude.{◌≡◌, ◌≤◌, ◌∷◌, [], List, OnOk, string_bytes};
-ghost use Rattle.text_rules.specs.Canonical.{joined};
+ghost use Rattle.tree_text_rules.specs.text_rules.Canonical.{joined};
 ghost use Rattle.tree_text_rules.specs.Line.{Token};
 ghost use Rattle.tree_text.specs.Prints.{Prints};
 

@@ -2,11 +2,11 @@
 use Rattle.std.proofs.Common.{◌≡◌, ◌==◌, ℕ, ℤ, List, [], ◌∷◌, length, map, Option, Some, Ok, refl}
 use Rattle.std.proofs.Common.{ap, subst, eqb-true, eq-eqb}
 use Rattle.std.specs.Fmt.{signed_decimal}
-use Rattle.integer_laws.specs.Range.{InRange}
-use Rattle.problem_rules.specs.Each.{Each}
-use Rattle.problem_rules.specs.Problem.{Problem}
-use Rattle.problem_rules.specs.WellFormed.{IsWellFormed}
-use Rattle.tree_rules.specs.Known.{AreUnits}
+use Rattle.tree_text_rules.specs.integer_laws.Range.{InRange}
+use Rattle.tree_text_rules.specs.problem_rules.Each.{Each}
+use Rattle.tree_text_rules.specs.problem_rules.Problem.{Problem}
+use Rattle.tree_text_rules.specs.problem_rules.WellFormed.{IsWellFormed}
+use Rattle.tree_text_rules.specs.tree_rules.Known.{AreUnits}
 use Rattle.tree_text_rules.specs.Line.{Token, word_text}
 use Rattle.tree_text_rules.specs.LineRead.{one, one_and_more, Opening, network, infeasible, unknown}
 use Rattle.tree_text_rules.specs.LineRead.{opening_by, opening_read, network_by, network_line_read}

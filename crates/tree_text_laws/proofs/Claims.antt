@@ -2,13 +2,13 @@
 use Rattle.std.proofs.Common.{◌≡◌, ◌≤◌, ℕ, suc, ℤ, List, [], ◌∷◌, ◌++◌, length, map, Result, Ok}
 use Rattle.std.proofs.Common.{refl, sym, ◌∙◌, ap, ap₂, subst, arith}
 use Rattle.std.specs.Fmt.{signed_decimal}
-use Rattle.number_sets.specs.Sets.{AreBelow}
-use Rattle.integer_laws.specs.Range.{InRange}
-use Rattle.problem_rules.specs.Each.{Each}
-use Rattle.problem_rules.specs.Problem.{Problem}
-use Rattle.problem_rules.specs.WellFormed.{IsWellFormed}
-use Rattle.tree_rules.specs.Claim as claims
-use Rattle.tree_rules.specs.Known.{AreUnits, KnowsClaim}
+use Rattle.tree_text_rules.specs.number_sets.Sets.{AreBelow}
+use Rattle.tree_text_rules.specs.integer_laws.Range.{InRange}
+use Rattle.tree_text_rules.specs.problem_rules.Each.{Each}
+use Rattle.tree_text_rules.specs.problem_rules.Problem.{Problem}
+use Rattle.tree_text_rules.specs.problem_rules.WellFormed.{IsWellFormed}
+use Rattle.tree_text_rules.specs.tree_rules.Claim as claims
+use Rattle.tree_text_rules.specs.tree_rules.Known.{AreUnits, KnowsClaim}
 use Rattle.branch_tree.specs.Sized.{IsKept}
 use Rattle.tree_text_rules.specs.Line.{Token, Line, word_text}
 use Rattle.tree_text_rules.specs.LineRead.{Opening, network, infeasible, unknown, opening_read}

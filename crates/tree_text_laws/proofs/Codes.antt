@@ -4,8 +4,8 @@ use Rattle.std.proofs.Common.{◌≡◌, Bool, true, false, ℕ, nat_lt, List, [
 use Rattle.std.proofs.Common.{None, Result, Ok, Err, refl, sym, ap, ap₂, ◌∙◌, subst, ltb-true}
 use Rattle.std.proofs.Common.{lt-ltb, if◌then◌else◌}
 use Rattle.std.proofs.lemmas.Bool.{and_parts, and_from}
-use Rattle.number_sets.specs.Sets.{IsBelowAll, IsRising}
-use Rattle.problem_rules.specs.Each.{Each}
+use Rattle.tree_text_rules.specs.number_sets.Sets.{IsBelowAll, IsRising}
+use Rattle.tree_text_rules.specs.problem_rules.Each.{Each}
 use Rattle.tree_text_rules.specs.Line.{Token, Line, is_formed, word_text, word_of, fields_of}
 use Rattle.tree_text_rules.specs.LineRead.{formed, one, two, one_and_more, alone}
 use Rattle.tree_text_rules.specs.Token.{both, mapped, each, judged, told, is_above_all, is_rising}

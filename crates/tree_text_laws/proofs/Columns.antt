@@ -5,15 +5,15 @@ use Rattle.std.proofs.Common.{◌∙◌, ap, subst, arith, ne_eqb, take-append-d
 use Rattle.std.specs.List.{list_any}
 use Rattle.std.specs.Str.{bytes_eq}
 use Rattle.std.proofs.lemmas.Slice.Eq.{bytes_eq-Decides}
-use Rattle.problem_rules.specs.Problem.{Problem}
-use Rattle.problem_rules.specs.WellFormed.{IsWellFormed}
-use Rattle.integer_laws.specs.declared.which.Which.{Which}
-use Rattle.integer_laws.specs.declared.which.Which.TheVariants as whiches
-use Rattle.flow_rules.specs.declared.place.Column.{Column}
-use Rattle.flow_rules.specs.declared.place.Column.TheVariants as columns
-use Rattle.flow_rules.specs.declared.place.FlowStep.{FlowStep}
-use Rattle.flow_rules.specs.declared.place.FlowStep.TheVariants as flows
-use Rattle.tree_rules.specs.Known.{IsUnit, IsMaterial, KnowsColumn, KnowsRow}
+use Rattle.tree_text_rules.specs.problem_rules.Problem.{Problem}
+use Rattle.tree_text_rules.specs.problem_rules.WellFormed.{IsWellFormed}
+use Rattle.tree_text_rules.specs.integer_laws.declared.which.Which.{Which}
+use Rattle.tree_text_rules.specs.integer_laws.declared.which.Which.TheVariants as whiches
+use Rattle.tree_text_rules.specs.flow_rules.declared.place.Column.{Column}
+use Rattle.tree_text_rules.specs.flow_rules.declared.place.Column.TheVariants as columns
+use Rattle.tree_text_rules.specs.flow_rules.declared.place.FlowStep.{FlowStep}
+use Rattle.tree_text_rules.specs.flow_rules.declared.place.FlowStep.TheVariants as flows
+use Rattle.tree_text_rules.specs.tree_rules.Known.{IsUnit, IsMaterial, KnowsColumn, KnowsRow}
 use Rattle.tree_text_rules.specs.Line.{Token}
 use Rattle.tree_text_rules.specs.Spelling.{unit_name, material_name, column_text, row_text}
 use Rattle.tree_text_rules.specs.Spelling.{which_text, flow_text}

@@ -10,11 +10,10 @@ use Rattle.std.specs.List.{list_all, list_any}
 use Rattle.std.specs.Char.{is_ascii_digit}
 use Rattle.std.proofs.lemmas.Bool.{cond-true, and_parts, and_from, true≢false}
 use Rattle.std.proofs.lemmas.Fmt.{decimal_step_wide, decimal_digit}
-use Rattle.integer_laws.specs.Range.{InRange}
-use Rattle.text_rules.specs.Amount.{number_from, number_of}
-use Rattle.text_laws.proofs.Cuts.{not_mark, none_from_all}
-use Rattle.text_laws.proofs.Digits.{decimal_printed, decimal_whole}
-use Rattle.edit_rules.specs.ScriptFault.{is_whole, whole_within}
+use Rattle.tree_text_rules.specs.integer_laws.Range.{InRange}
+use Rattle.tree_text_rules.specs.text_rules.Amount.{number_from, number_of}
+use Rattle.text_laws.proofs.Cited.{not_mark, none_from_all, decimal_printed, decimal_whole}
+use Rattle.tree_text_rules.specs.edit_rules.ScriptFault.{is_whole, whole_within}
 use Rattle.tree_text_rules.specs.Line.{Token}
 use Rattle.tree_text_rules.specs.Token.{told, greatest, negative_of, whole_number}
 use Rattle.tree_text_rules.specs.Token.{number_of as whole_of, is_not_negative, weight_of}

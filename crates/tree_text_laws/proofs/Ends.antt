@@ -3,14 +3,14 @@ use Rattle.std.proofs.Common.{◌≡◌, ◌+◌, ◌<◌, ◌≤◌, ℕ, suc, 
 use Rattle.std.proofs.Common.{Some, None, Result, Ok, refl, sym, ◌∙◌, ap, ap₂, subst, append_assoc}
 use Rattle.std.proofs.Common.{append-nil, length-append, arith}
 use Rattle.std.proofs.lemmas.List.{length-map}
-use Rattle.problem_rules.specs.Each.{Each}
-use Rattle.problem_rules.specs.Problem.{Problem}
-use Rattle.problem_rules.specs.WellFormed.{IsWellFormed}
-use Rattle.flow_rules.specs.Cover.{Cover}
-use Rattle.flow_rules.specs.ChargeLeaf.{Handed}
-use Rattle.tree_rules.specs.Tree as trees
-use Rattle.tree_rules.specs.Leaf.{Leaf}
-use Rattle.tree_rules.specs.Known.{KnowsCover, KnowsCharge, KnowsEnd}
+use Rattle.tree_text_rules.specs.problem_rules.Each.{Each}
+use Rattle.tree_text_rules.specs.problem_rules.Problem.{Problem}
+use Rattle.tree_text_rules.specs.problem_rules.WellFormed.{IsWellFormed}
+use Rattle.tree_text_rules.specs.flow_rules.Cover.{Cover}
+use Rattle.tree_text_rules.specs.flow_rules.ChargeLeaf.{Handed}
+use Rattle.tree_text_rules.specs.tree_rules.Tree as trees
+use Rattle.tree_text_rules.specs.tree_rules.Leaf.{Leaf}
+use Rattle.tree_text_rules.specs.tree_rules.Known.{KnowsCover, KnowsCharge, KnowsEnd}
 use Rattle.tree_text_rules.specs.Line.{Line}
 use Rattle.tree_text_rules.specs.LineRead.{end_line_read, next_cover}
 use Rattle.tree_text_rules.specs.Read.{Fault, Taken, with_covers, charge_end, charge_of, on_line}

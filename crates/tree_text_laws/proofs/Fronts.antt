@@ -3,14 +3,14 @@ use Rattle.std.proofs.Common.{◌≡◌, ◌+◌, ◌<◌, ◌≤◌, ℕ, suc, 
 use Rattle.std.proofs.Common.{Some, None, Result, Ok, Err, refl, sym, ◌∙◌, ap, ap₂, subst, arith}
 use Rattle.std.proofs.Common.{append_assoc, append-nil, length-append}
 use Rattle.std.proofs.lemmas.List.{length-map, map-append}
-use Rattle.problem_rules.specs.Each.{Each}
-use Rattle.problem_rules.specs.Problem.{Problem}
-use Rattle.problem_rules.specs.WellFormed.{IsWellFormed}
-use Rattle.text_laws.proofs.Each.{each-append}
-use Rattle.flow_rules.specs.Cover.{Cover}
-use Rattle.tree_rules.specs.Known.{KnowsCover}
-use Rattle.tree_rules.specs.Head.{HeadLine, step, cap, out, trim, uses}
-use Rattle.tree_rules.specs.HeadKnown.{KnowsLine, KnowsHead}
+use Rattle.tree_text_rules.specs.problem_rules.Each.{Each}
+use Rattle.tree_text_rules.specs.problem_rules.Problem.{Problem}
+use Rattle.tree_text_rules.specs.problem_rules.WellFormed.{IsWellFormed}
+use Rattle.text_laws.proofs.Cited.{each-append}
+use Rattle.tree_text_rules.specs.flow_rules.Cover.{Cover}
+use Rattle.tree_text_rules.specs.tree_rules.Known.{KnowsCover}
+use Rattle.tree_text_rules.specs.tree_rules.Head.{HeadLine, step, cap, out, trim, uses}
+use Rattle.tree_text_rules.specs.tree_rules.HeadKnown.{KnowsLine, KnowsHead}
 use Rattle.tree_text_rules.specs.Line.{Token, Line}
 use Rattle.tree_text_rules.specs.LineRead.{head_read, sets_of, next_among, next_cover}
 use Rattle.tree_text_rules.specs.Read.{Fault, Taken, on_line, with_set, with_line, front_taken}

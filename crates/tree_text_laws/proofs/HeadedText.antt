@@ -2,14 +2,14 @@
 use Rattle.std.proofs.Common.{◌≡◌, ◌+◌, ℕ, List, [], ◌∷◌, ◌++◌, length, map, None, Result, Ok, Err}
 use Rattle.std.proofs.Common.{refl, sym, ◌∙◌, ap, ap₂, subst}
 use Rattle.std.proofs.lemmas.List.{map-append}
-use Rattle.text_laws.proofs.Each.{each-append, each-to}
-use Rattle.problem_rules.specs.Each.{Each}
-use Rattle.problem_rules.specs.Problem.{Problem}
-use Rattle.problem_rules.specs.WellFormed.{IsWellFormed}
-use Rattle.tree_rules.specs.Claim as claims
-use Rattle.tree_rules.specs.Accepted.{Tree}
-use Rattle.tree_rules.specs.Tail as tails
-use Rattle.tree_rules.specs.Head.{HeadLine}
+use Rattle.text_laws.proofs.Cited.{each-append, each-to}
+use Rattle.tree_text_rules.specs.problem_rules.Each.{Each}
+use Rattle.tree_text_rules.specs.problem_rules.Problem.{Problem}
+use Rattle.tree_text_rules.specs.problem_rules.WellFormed.{IsWellFormed}
+use Rattle.tree_text_rules.specs.tree_rules.Claim as claims
+use Rattle.tree_text_rules.specs.tree_rules.Accepted.{Tree}
+use Rattle.tree_text_rules.specs.tree_rules.Tail as tails
+use Rattle.tree_text_rules.specs.tree_rules.Head.{HeadLine}
 use Rattle.tree_text_rules.specs.Line.{Token, Line, lines_of}
 use Rattle.tree_text_rules.specs.LineRead.{file_type_read}
 use Rattle.tree_text_rules.specs.Read.{Fault, Taken, then_read, claim_taken, front_taken}

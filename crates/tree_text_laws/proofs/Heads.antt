@@ -3,11 +3,11 @@ use Rattle.std.proofs.Common.{◌≡◌, ◌+◌, ℕ, suc, List, [], ◌∷◌,
 use Rattle.std.proofs.Common.{None, Result, Ok, refl, sym, ◌∙◌, ap, ap₂, subst, append_assoc}
 use Rattle.std.proofs.Common.{append-nil, arith}
 use Rattle.std.proofs.lemmas.List.{length-map}
-use Rattle.problem_rules.specs.Each.{Each}
-use Rattle.problem_rules.specs.Problem.{Problem}
-use Rattle.problem_rules.specs.WellFormed.{IsWellFormed}
-use Rattle.pns_rules.specs.Nodes as nodes
-use Rattle.tree_rules.specs.Known.{AreUnits, KnowsStep}
+use Rattle.tree_text_rules.specs.problem_rules.Each.{Each}
+use Rattle.tree_text_rules.specs.problem_rules.Problem.{Problem}
+use Rattle.tree_text_rules.specs.problem_rules.WellFormed.{IsWellFormed}
+use Rattle.tree_text_rules.specs.pns_rules.Nodes as nodes
+use Rattle.tree_text_rules.specs.tree_rules.Known.{AreUnits, KnowsStep}
 use Rattle.tree_text_rules.specs.Line.{Line}
 use Rattle.tree_text_rules.specs.LineRead.{step_read, option_read}
 use Rattle.tree_text_rules.specs.Read.{Fault, Taken, Head, with_step, on_line, steps_taken}

@@ -1,3 +1,4 @@
+pub mod Cited
 pub mod Claims
 mod Ends
 mod Fronts
@@ -18,3 +19,8 @@ pub mod Pieces
 mod Places
 pub mod Said
 pub mod TailLines
+pub use Rattle.tree_text_rules.proofs.number_sets as number_sets
+pub use Rattle.tree_text_rules.proofs.integer_laws as integer_laws
+pub use Rattle.tree_text_rules.proofs.pns_rules as pns_rules
+pub use Rattle.text_laws.proofs as text_laws
+pub use Rattle.branch_tree.proofs.pns_problem as pns_problem

@@ -9,17 +9,17 @@ use Rattle.std.proofs.lemmas.Bool.{cond-true, cond-false, and_parts, or_parts}
 use Rattle.std.proofs.lemmas.List.{get_or-map, length-map}
 use Rattle.std.proofs.lemmas.List.Quantifiers.{position-Some}
 use Rattle.std.proofs.lemmas.Slice.Eq.{bytes_eq-Decides}
-use Rattle.number_sets.specs.Sets.{AreBelow}
-use Rattle.problem_rules.specs.Each.{Each}
-use Rattle.problem_rules.specs.Names.{is_name, continues_name, is_among, has_double}
-use Rattle.problem_rules.specs.Problem.{Problem, Material, OperatingUnit, Exclusion, no_material}
-use Rattle.problem_rules.specs.Problem.{no_unit, no_exclusion}
-use Rattle.problem_rules.specs.WellFormed.{IsWellFormed, IsWellFormedMaterial, IsWellFormedUnit}
-use Rattle.problem_rules.specs.WellFormed.{IsWellFormedExclusion}
-use Rattle.text_laws.proofs.Cuts.{not_mark, none_from_all}
-use Rattle.text_laws.proofs.Each.{each-to}
-use Rattle.text_laws.proofs.Names.{bytes_same, bytes_differ}
-use Rattle.tree_rules.specs.Known.{IsUnit, IsMaterial, IsExclusion, AreUnits}
+use Rattle.tree_text_rules.specs.number_sets.Sets.{AreBelow}
+use Rattle.tree_text_rules.specs.problem_rules.Each.{Each}
+use Rattle.tree_text_rules.specs.problem_rules.Names.{is_name, continues_name, is_among, has_double}
+use Rattle.tree_text_rules.specs.problem_rules.Problem.{Problem, Material, OperatingUnit, Exclusion}
+use Rattle.tree_text_rules.specs.problem_rules.Problem.{no_material}
+use Rattle.tree_text_rules.specs.problem_rules.Problem.{no_unit, no_exclusion}
+use Rattle.tree_text_rules.specs.problem_rules.WellFormed.{IsWellFormed, IsWellFormedMaterial}
+use Rattle.tree_text_rules.specs.problem_rules.WellFormed.{IsWellFormedUnit}
+use Rattle.tree_text_rules.specs.problem_rules.WellFormed.{IsWellFormedExclusion}
+use Rattle.text_laws.proofs.Cited.{not_mark, none_from_all, each-to, bytes_same, bytes_differ}
+use Rattle.tree_text_rules.specs.tree_rules.Known.{IsUnit, IsMaterial, IsExclusion, AreUnits}
 use Rattle.tree_text_rules.specs.Line.{Token}
 use Rattle.tree_text_rules.specs.Spelling.{unit_name, material_name, exclusion_name}
 use Rattle.tree_text_rules.specs.Token.{told, each, is_rising, unit_of, material_of, exclusion_of}

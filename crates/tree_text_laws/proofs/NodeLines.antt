@@ -4,21 +4,22 @@ use Rattle.std.proofs.Common.{Option, Some, None, IfSome, Result, Ok, refl, sym,
 use Rattle.std.proofs.Common.{subst}
 use Rattle.std.specs.Fmt.{signed_decimal}
 use Rattle.std.proofs.lemmas.List.Elements.{All-cons, All-nil, All-head, All-tail}
-use Rattle.integer_laws.specs.Range.{InRange, AllInRange}
-use Rattle.problem_rules.specs.Each.{Each}
-use Rattle.problem_rules.specs.Problem.{Problem}
-use Rattle.problem_rules.specs.WellFormed.{IsWellFormed}
-use Rattle.pns_rules.specs.Nodes as nodes
-use Rattle.flow_rules.specs.Cover.{Cover}
-use Rattle.tree_rules.specs.Ways as ways
-use Rattle.tree_rules.specs.Tree as trees
-use Rattle.tree_rules.specs.Leaf as leaves
-use Rattle.tree_rules.specs.Known.{IsUnit, IsMaterial, IsExclusion, AreUnits, KnowsStep, KnowsCover}
-use Rattle.tree_rules.specs.Known.{KnowsCharge}
-use Rattle.tree_rules.specs.Charged.{handed}
-use Rattle.tree_rules.specs.Head as heads
-use Rattle.tree_rules.specs.Head.{HeadLine}
-use Rattle.tree_rules.specs.HeadKnown.{KnowsLine}
+use Rattle.tree_text_rules.specs.integer_laws.Range.{InRange, AllInRange}
+use Rattle.tree_text_rules.specs.problem_rules.Each.{Each}
+use Rattle.tree_text_rules.specs.problem_rules.Problem.{Problem}
+use Rattle.tree_text_rules.specs.problem_rules.WellFormed.{IsWellFormed}
+use Rattle.tree_text_rules.specs.pns_rules.Nodes as nodes
+use Rattle.tree_text_rules.specs.flow_rules.Cover.{Cover}
+use Rattle.tree_text_rules.specs.tree_rules.Ways as ways
+use Rattle.tree_text_rules.specs.tree_rules.Tree as trees
+use Rattle.tree_text_rules.specs.tree_rules.Leaf as leaves
+use Rattle.tree_text_rules.specs.tree_rules.Known.{IsUnit, IsMaterial, IsExclusion, AreUnits}
+use Rattle.tree_text_rules.specs.tree_rules.Known.{KnowsStep, KnowsCover}
+use Rattle.tree_text_rules.specs.tree_rules.Known.{KnowsCharge}
+use Rattle.tree_text_rules.specs.tree_rules.Charged.{handed}
+use Rattle.tree_text_rules.specs.tree_rules.Head as heads
+use Rattle.tree_text_rules.specs.tree_rules.Head.{HeadLine}
+use Rattle.tree_text_rules.specs.tree_rules.HeadKnown.{KnowsLine}
 use Rattle.tree_text_rules.specs.Line.{Token, Line, is_formed, word_text, word_of, fields_of}
 use Rattle.tree_text_rules.specs.LineRead.{formed, one, two, one_and_more, step_by, formed_step}
 use Rattle.tree_text_rules.specs.LineRead.{step_read, open_of, end_by, end_line_read, some_units}

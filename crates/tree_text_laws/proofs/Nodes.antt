@@ -4,18 +4,19 @@ use Rattle.std.proofs.Common.{◌∷◌, ◌++◌, length, map, Option, Some, No
 use Rattle.std.proofs.Common.{sym, ◌∙◌, ap, ap₂, subst, append_assoc, append-nil, length-append}
 use Rattle.std.proofs.Common.{arith, ltb-true, lt-ltb, if◌then◌else◌}
 use Rattle.std.proofs.lemmas.List.{map-append, length-map}
-use Rattle.problem_rules.specs.Each.{Each}
-use Rattle.problem_rules.specs.Problem.{Problem}
-use Rattle.problem_rules.specs.WellFormed.{IsWellFormed}
-use Rattle.pns_rules.specs.Nodes as nodes
-use Rattle.flow_rules.specs.Cover.{Cover}
-use Rattle.flow_rules.specs.ChargeLeaf.{Handed}
-use Rattle.tree_rules.specs.Tree as trees
-use Rattle.tree_rules.specs.Leaf as leaves
-use Rattle.tree_rules.specs.Accepted.{Tree}
-use Rattle.text_laws.proofs.Each.{each-append}
-use Rattle.tree_rules.specs.Known.{AreUnits, KnowsStep, KnowsCover, KnowsCharge, KnowsEnd}
-use Rattle.tree_rules.specs.Known.{KnowsNode, KnowsTree}
+use Rattle.tree_text_rules.specs.problem_rules.Each.{Each}
+use Rattle.tree_text_rules.specs.problem_rules.Problem.{Problem}
+use Rattle.tree_text_rules.specs.problem_rules.WellFormed.{IsWellFormed}
+use Rattle.tree_text_rules.specs.pns_rules.Nodes as nodes
+use Rattle.tree_text_rules.specs.flow_rules.Cover.{Cover}
+use Rattle.tree_text_rules.specs.flow_rules.ChargeLeaf.{Handed}
+use Rattle.tree_text_rules.specs.tree_rules.Tree as trees
+use Rattle.tree_text_rules.specs.tree_rules.Leaf as leaves
+use Rattle.tree_text_rules.specs.tree_rules.Accepted.{Tree}
+use Rattle.text_laws.proofs.Cited.{each-append}
+use Rattle.tree_text_rules.specs.tree_rules.Known.{AreUnits, KnowsStep, KnowsCover, KnowsCharge}
+use Rattle.tree_text_rules.specs.tree_rules.Known.{KnowsEnd}
+use Rattle.tree_text_rules.specs.tree_rules.Known.{KnowsNode, KnowsTree}
 use Rattle.tree_text_rules.specs.Line.{Token, Line}
 use Rattle.tree_text_rules.specs.LineRead.{step_read, end_line_read, cover_read, next_cover}
 use Rattle.tree_text_rules.specs.LineRead.{option_read, root_read}

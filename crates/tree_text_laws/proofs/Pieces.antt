@@ -4,9 +4,9 @@ use Rattle.std.proofs.Common.{◌≡◌, ◌==◌, Bool, true, false, cond, ℕ,
 use Rattle.std.proofs.Common.{flat_map, refl, sym, ap, ap₂, ◌∙◌, append_assoc, append-nil, eqb-true}
 use Rattle.std.proofs.Common.{if◌then◌else◌}
 use Rattle.std.specs.List.{list_any, slice_split, onto_first}
-use Rattle.problem_rules.specs.Each.{Each}
-use Rattle.text_rules.specs.Canonical.{joined}
-use Rattle.text_laws.proofs.Cuts.{split_at}
+use Rattle.tree_text_rules.specs.problem_rules.Each.{Each}
+use Rattle.tree_text_rules.specs.text_rules.Canonical.{joined}
+use Rattle.text_laws.proofs.Cited.{split_at}
 pub use Rattle.text_laws.proofs.Cuts.{split_joined, joined_none}
 use Rattle.tree_text_rules.specs.Line.{Token, Line, is_feed, lines_from, lines_of}
 use Rattle.tree_text_rules.specs.Spelling.{line_text, text_of}

@@ -2,14 +2,14 @@
 use Rattle.std.proofs.Common.{◌≡◌, true, List, [], ◌∷◌, codes, decimal, Option, Result, Ok, refl}
 use Rattle.std.proofs.Common.{◌∙◌, ap, ap₂, subst}
 use Rattle.std.specs.Str.{bytes_eq}
-use Rattle.problem_rules.specs.Each.{Each}
-use Rattle.problem_rules.specs.Problem.{Problem}
-use Rattle.problem_rules.specs.WellFormed.{IsWellFormed}
-use Rattle.integer_laws.specs.declared.which.Which.{Which}
-use Rattle.flow_rules.specs.declared.place.Column.{Column}
-use Rattle.flow_rules.specs.declared.place.Place.{Place}
-use Rattle.flow_rules.specs.declared.place.Place.TheVariants as places
-use Rattle.tree_rules.specs.Known.{IsUnit, KnowsColumn, KnowsPlace}
+use Rattle.tree_text_rules.specs.problem_rules.Each.{Each}
+use Rattle.tree_text_rules.specs.problem_rules.Problem.{Problem}
+use Rattle.tree_text_rules.specs.problem_rules.WellFormed.{IsWellFormed}
+use Rattle.tree_text_rules.specs.integer_laws.declared.which.Which.{Which}
+use Rattle.tree_text_rules.specs.flow_rules.declared.place.Column.{Column}
+use Rattle.tree_text_rules.specs.flow_rules.declared.place.Place.{Place}
+use Rattle.tree_text_rules.specs.flow_rules.declared.place.Place.TheVariants as places
+use Rattle.tree_text_rules.specs.tree_rules.Known.{IsUnit, KnowsColumn, KnowsPlace}
 use Rattle.tree_text_rules.specs.Line.{Token}
 use Rattle.tree_text_rules.specs.LineRead.{one, two, entry_of, place_of}
 use Rattle.tree_text_rules.specs.Spelling.{unit_name, column_text, row_text, which_text, flow_text}

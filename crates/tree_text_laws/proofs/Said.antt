@@ -5,9 +5,9 @@ use Rattle.std.specs.List.{list_all, list_any}
 use Rattle.std.specs.Str.{bytes_eq}
 use Rattle.std.proofs.lemmas.Bool.{and_parts, and_from}
 use Rattle.std.proofs.lemmas.Slice.Eq.{bytes_eq-Decides}
-use Rattle.problem_rules.specs.Each.{Each}
-use Rattle.text_rules.specs.Canonical.{joined}
-use Rattle.text_laws.proofs.Each.{each-to}
+use Rattle.tree_text_rules.specs.problem_rules.Each.{Each}
+use Rattle.tree_text_rules.specs.text_rules.Canonical.{joined}
+use Rattle.text_laws.proofs.Cited.{each-to}
 use Rattle.tree_text_rules.specs.Line.{Token, Line, is_feed, is_space, tokens_of, has_bytes}
 use Rattle.tree_text_rules.specs.Line.{is_formed, word_text, word_named, first_word, behind_first}
 use Rattle.tree_text_rules.specs.Line.{word_of, fields_of}

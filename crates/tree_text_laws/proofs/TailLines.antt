@@ -1,12 +1,12 @@
 -- The lines of a tail, both ways.
 use Rattle.std.proofs.Common.{◌≡◌, List, [], ◌∷◌, map, decimal, Option, Some, Result, Ok, refl, ◌∙◌}
 use Rattle.std.proofs.Common.{ap, subst}
-use Rattle.problem_rules.specs.Each.{Each}
-use Rattle.problem_rules.specs.Problem.{Problem}
-use Rattle.problem_rules.specs.WellFormed.{IsWellFormed}
-use Rattle.flow_rules.specs.declared.place.Column.{Column}
-use Rattle.flow_rules.specs.declared.place.Place.{Place}
-use Rattle.tree_rules.specs.Known.{KnowsColumn}
+use Rattle.tree_text_rules.specs.problem_rules.Each.{Each}
+use Rattle.tree_text_rules.specs.problem_rules.Problem.{Problem}
+use Rattle.tree_text_rules.specs.problem_rules.WellFormed.{IsWellFormed}
+use Rattle.tree_text_rules.specs.flow_rules.declared.place.Column.{Column}
+use Rattle.tree_text_rules.specs.flow_rules.declared.place.Place.{Place}
+use Rattle.tree_text_rules.specs.tree_rules.Known.{KnowsColumn}
 use Rattle.tree_text_rules.specs.Line.{Token, Line, word_text, word_of, fields_of}
 use Rattle.tree_text_rules.specs.LineRead.{formed, one, two, behind_nodes, TailOpening, whole}
 use Rattle.tree_text_rules.specs.LineRead.{spent, past, tail_opening_by, tail_opening_read}

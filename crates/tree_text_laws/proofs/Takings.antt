@@ -2,12 +2,12 @@
 use Rattle.std.proofs.Common.{◌≡◌, ◌+◌, ℕ, suc, List, [], ◌∷◌, ◌++◌, length, map, None, Result, Ok}
 use Rattle.std.proofs.Common.{sym, ◌∙◌, ap, arith, length-append}
 use Rattle.std.proofs.lemmas.List.{length-map}
-use Rattle.problem_rules.specs.Problem.{Problem}
-use Rattle.problem_rules.specs.WellFormed.{IsWellFormed}
-use Rattle.pns_rules.specs.Nodes as nodes
-use Rattle.flow_rules.specs.Cover.{Cover}
-use Rattle.tree_rules.specs.Claim as claims
-use Rattle.tree_rules.specs.Accepted.{Tree}
+use Rattle.tree_text_rules.specs.problem_rules.Problem.{Problem}
+use Rattle.tree_text_rules.specs.problem_rules.WellFormed.{IsWellFormed}
+use Rattle.tree_text_rules.specs.pns_rules.Nodes as nodes
+use Rattle.tree_text_rules.specs.flow_rules.Cover.{Cover}
+use Rattle.tree_text_rules.specs.tree_rules.Claim as claims
+use Rattle.tree_text_rules.specs.tree_rules.Accepted.{Tree}
 use Rattle.tree_text_rules.specs.Line.{Token, Line}
 use Rattle.tree_text_rules.specs.Read.{Fault, Taken, network_taken, claim_taken, end_taken}
 use Rattle.tree_text_rules.specs.Read.{front_taken, tree_taken, tail_taken, rest_taken}
@@ -16,7 +16,7 @@ use Rattle.tree_text_rules.specs.Spelling.{step_line, cover_line, covers_in, end
 use Rattle.tree_text_rules.specs.Spelling.{node_lines, network_lines, claim_lines, tree_lines}
 use Rattle.tree_text_rules.specs.Spelling.{front_lines, tail_lines, rest_lines}
 use Rattle.tree_text_rules.specs.Spelling.{headed_rest_lines}
-use Rattle.tree_rules.specs.HeadKnown.{KnowsHead}
+use Rattle.tree_text_rules.specs.tree_rules.HeadKnown.{KnowsHead}
 use Rattle.tree_text_laws.specs.LineFits.{FitsEnd}
 use Rattle.tree_text_laws.specs.Fits.{FitsNetwork, FitsClaim, FitsTree, FitsTail, Fits}
 use Rattle.tree_text_laws.specs.Fits.{FitsHeaded}

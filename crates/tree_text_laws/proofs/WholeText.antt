@@ -4,13 +4,13 @@ use Rattle.std.proofs.Common.{refl, sym, ◌∙◌, ap, ap₂, subst, if◌then�
 use Rattle.std.specs.Str.{bytes_eq}
 use Rattle.std.proofs.lemmas.List.{map-append}
 use Rattle.std.proofs.lemmas.Slice.Eq.{bytes_eq-Decides}
-use Rattle.problem_rules.specs.Each.{Each}
-use Rattle.problem_rules.specs.Problem.{Problem}
-use Rattle.problem_rules.specs.WellFormed.{IsWellFormed}
-use Rattle.tree_rules.specs.Claim as claims
-use Rattle.tree_rules.specs.Accepted.{Tree}
-use Rattle.text_laws.proofs.Each.{each-append, each-to}
-use Rattle.tree_rules.specs.Tail as tails
+use Rattle.tree_text_rules.specs.problem_rules.Each.{Each}
+use Rattle.tree_text_rules.specs.problem_rules.Problem.{Problem}
+use Rattle.tree_text_rules.specs.problem_rules.WellFormed.{IsWellFormed}
+use Rattle.tree_text_rules.specs.tree_rules.Claim as claims
+use Rattle.tree_text_rules.specs.tree_rules.Accepted.{Tree}
+use Rattle.text_laws.proofs.Cited.{each-append, each-to}
+use Rattle.tree_text_rules.specs.tree_rules.Tail as tails
 use Rattle.tree_text_rules.specs.Line.{Token, Line, file_type, lines_of}
 use Rattle.tree_text_rules.specs.LineRead.{file_type_read}
 use Rattle.tree_text_rules.specs.Read.{Fault, Taken, Certificate, then_read, with_tail, claim_taken}

@@ -2,8 +2,8 @@
 -- alone, and gives each value that fits.
 use Rattle.std.specs.Prelude.{◌≡◌, true, false, List, Result, Ok}
 use Rattle.std.specs.List.{list_any}
-use Rattle.problem_rules.specs.Each.{Each}
-use Rattle.text_rules.specs.Canonical.{joined}
+use Rattle.tree_text_rules.specs.problem_rules.Each.{Each}
+use Rattle.tree_text_rules.specs.text_rules.Canonical.{joined}
 use Rattle.tree_text_rules.specs.Line.{Token, Line, is_feed, is_space, has_bytes}
 use Rattle.tree_text_rules.specs.declared.TreeKind.{TreeKind}
 

@@ -1,14 +1,15 @@
 -- What a text can have: claims, trees and tails that a problem knows, with networks that are sized,
 -- numbers in range, and counts that a line can have.
-use Rattle.problem_rules.specs.Each.{Each}
-use Rattle.problem_rules.specs.Problem.{Problem}
-use Rattle.tree_rules.specs.Tree as trees
-use Rattle.tree_rules.specs.Accepted.{Tree}
-use Rattle.tree_rules.specs.Claim as claims
-use Rattle.tree_rules.specs.Known.{AreUnits, KnowsClaim, KnowsStep, KnowsTree, KnowsTail}
+use Rattle.tree_text_rules.specs.problem_rules.Each.{Each}
+use Rattle.tree_text_rules.specs.problem_rules.Problem.{Problem}
+use Rattle.tree_text_rules.specs.tree_rules.Tree as trees
+use Rattle.tree_text_rules.specs.tree_rules.Accepted.{Tree}
+use Rattle.tree_text_rules.specs.tree_rules.Claim as claims
+use Rattle.tree_text_rules.specs.tree_rules.Known.{AreUnits, KnowsClaim, KnowsStep, KnowsTree}
+use Rattle.tree_text_rules.specs.tree_rules.Known.{KnowsTail}
 use Rattle.branch_tree.specs.Sized.{IsKept}
-use Rattle.tree_rules.specs.Tail as tails
-use Rattle.tree_rules.specs.HeadKnown.{KnowsHead}
+use Rattle.tree_text_rules.specs.tree_rules.Tail as tails
+use Rattle.tree_text_rules.specs.tree_rules.HeadKnown.{KnowsHead}
 use Rattle.tree_text_rules.specs.Read.{Certificate, HeadedCertificate, Head}
 use Rattle.tree_text_laws.specs.LineFits.{IsCount, IsOptionCount, CountsEnd, CountsPlace}
 

@@ -1,8 +1,8 @@
 -- The laws of the text of branch trees, each the contract of a public function of this crate.
 use Rattle.std.specs.Prelude.{◌≡◌, ◌+◌, ℕ, List, [], ◌++◌, length, None, Ok}
-use Rattle.problem_rules.specs.Problem.{Problem}
-use Rattle.problem_rules.specs.Validity.{IsValid}
-use Rattle.tree_rules.specs.HeadKnown.{KnowsHead}
+use Rattle.tree_text_rules.specs.problem_rules.Problem.{Problem}
+use Rattle.tree_text_rules.specs.problem_rules.Validity.{IsValid}
+use Rattle.tree_text_rules.specs.tree_rules.HeadKnown.{KnowsHead}
 use Rattle.tree_text_rules.specs.Line.{Line}
 use Rattle.tree_text_rules.specs.Read.{Taken, Certificate, Head, network_taken}
 use Rattle.tree_text_rules.specs.Read.{claim_taken}

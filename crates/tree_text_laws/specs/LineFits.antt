@@ -1,17 +1,17 @@
 -- What a line can have: numbers in range, counts up to 2^32 - 1, up to 2^128 - 1 options, and ends
 -- and places that a problem knows with such counts.
 use Rattle.std.specs.Prelude.{◌≡◌, ℕ, ℤ, pos, ◌≤◌, ◌≤ℤ◌, ◌^◌, ◌-◌, List, [], length}
-use Rattle.integer_laws.specs.Range.{InRange}
-use Rattle.problem_rules.specs.Each.{Each}
-use Rattle.problem_rules.specs.Problem.{Problem}
-use Rattle.flow_rules.specs.declared.place.Place.{Place}
-use Rattle.flow_rules.specs.declared.place.Place.TheVariants as places
-use Rattle.tree_rules.specs.Ways as ways
-use Rattle.tree_rules.specs.Tree as trees
-use Rattle.tree_rules.specs.Leaf as leaves
-use Rattle.tree_rules.specs.Known.{KnowsEnd, KnowsPlace}
-use Rattle.tree_rules.specs.Head.{HeadLine}
-use Rattle.tree_rules.specs.HeadKnown.{KnowsLine}
+use Rattle.tree_text_rules.specs.integer_laws.Range.{InRange}
+use Rattle.tree_text_rules.specs.problem_rules.Each.{Each}
+use Rattle.tree_text_rules.specs.problem_rules.Problem.{Problem}
+use Rattle.tree_text_rules.specs.flow_rules.declared.place.Place.{Place}
+use Rattle.tree_text_rules.specs.flow_rules.declared.place.Place.TheVariants as places
+use Rattle.tree_text_rules.specs.tree_rules.Ways as ways
+use Rattle.tree_text_rules.specs.tree_rules.Tree as trees
+use Rattle.tree_text_rules.specs.tree_rules.Leaf as leaves
+use Rattle.tree_text_rules.specs.tree_rules.Known.{KnowsEnd, KnowsPlace}
+use Rattle.tree_text_rules.specs.tree_rules.Head.{HeadLine}
+use Rattle.tree_text_rules.specs.tree_rules.HeadKnown.{KnowsLine}
 use Rattle.tree_text_rules.specs.Spelling.{covers_in, sets_in}
 
 -- the number of a node or of a step, or how many children a branch has

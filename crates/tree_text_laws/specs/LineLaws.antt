@@ -1,15 +1,16 @@
 -- The laws of tokens and lines. Each is the contract of a public function of this crate.
 use Rattle.std.specs.Prelude.{◌≡◌, ℕ, List, [], ◌∷◌, map, decimal, Some, Ok}
 use Rattle.std.specs.Fmt.{signed_decimal}
-use Rattle.integer_laws.specs.Range.{InRange}
-use Rattle.problem_rules.specs.Each.{Each}
-use Rattle.problem_rules.specs.Problem.{Problem}
-use Rattle.problem_rules.specs.Validity.{IsValid}
-use Rattle.pns_rules.specs.Nodes.{Step}
-use Rattle.flow_rules.specs.Cover.{Cover}
-use Rattle.tree_rules.specs.Known.{IsUnit, IsMaterial, IsExclusion, AreUnits, KnowsStep, KnowsCover}
-use Rattle.tree_rules.specs.Known.{KnowsColumn, KnowsRow}
-use Rattle.tree_rules.specs.Head.{HeadLine}
+use Rattle.tree_text_rules.specs.integer_laws.Range.{InRange}
+use Rattle.tree_text_rules.specs.problem_rules.Each.{Each}
+use Rattle.tree_text_rules.specs.problem_rules.Problem.{Problem}
+use Rattle.tree_text_rules.specs.problem_rules.Validity.{IsValid}
+use Rattle.tree_text_rules.specs.pns_rules.Nodes.{Step}
+use Rattle.tree_text_rules.specs.flow_rules.Cover.{Cover}
+use Rattle.tree_text_rules.specs.tree_rules.Known.{IsUnit, IsMaterial, IsExclusion, AreUnits}
+use Rattle.tree_text_rules.specs.tree_rules.Known.{KnowsStep, KnowsCover}
+use Rattle.tree_text_rules.specs.tree_rules.Known.{KnowsColumn, KnowsRow}
+use Rattle.tree_text_rules.specs.tree_rules.Head.{HeadLine}
 use Rattle.tree_text_rules.specs.Line.{Token, Line, lines_of, word_text}
 use Rattle.tree_text_rules.specs.LineRead.{step_read, end_line_read, cover_read, head_read}
 use Rattle.tree_text_rules.specs.LineRead.{option_read, root_read, network_line_read, sizes_read}

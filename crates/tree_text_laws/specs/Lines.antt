@@ -1,6 +1,6 @@
 -- The lines of values, and readings that take the lines of each value that fits, and no others.
 use Rattle.std.specs.Prelude.{◌≡◌, ◌+◌, ℕ, List, [], ◌∷◌, ◌++◌, length, map, None, Result, Ok}
-use Rattle.problem_rules.specs.Problem.{Problem}
+use Rattle.tree_text_rules.specs.problem_rules.Problem.{Problem}
 use Rattle.tree_text_rules.specs.Line.{Token, Line}
 use Rattle.tree_text_rules.specs.LineRead.{step_read, cover_read, head_read}
 use Rattle.tree_text_rules.specs.Read.{Fault, Taken}

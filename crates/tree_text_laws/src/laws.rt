@@ -7,7 +7,7 @@ ghost use Rattle.tree_text_laws.specs.Laws.{HeadedRestsAreRead};
 ghost use Rattle.tree_text_laws.specs.Laws.{TailsAreRead, RestsAreRead, SpelledHeadsRead};
 ghost use Rattle.tree_text_laws.specs.Laws.{ReadHeadsAreSpelled};
 
-use problem_rules::valid_is_well_formed;
+use tree_text_rules::valid_is_well_formed;
 
 /// The text of a claim, a tree and a tail that fit a valid problem reads as them.
 pub fn spelled_texts_read()

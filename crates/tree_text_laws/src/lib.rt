@@ -17,6 +17,11 @@
 pub mod laws;
 pub mod line_laws;
 
+pub use branch_tree::{
+    Claim, Cover, Covers, End, Graph, Head, HeadLine, MatSet, Multipliers, Network, Node,
+    OperatingUnit, Parts, Problem, Scaled, Site, Step, Steps, Tail, Tree, TreeNode, UnitSet,
+    generate,
+};
 pub use laws::{
     claims_are_taken, ends_are_taken, headed_rests_are_read, heads_are_taken, networks_are_taken,
     plain_texts_are_headed, read_headed_texts_are_spelled, read_heads_are_spelled,
@@ -27,3 +32,4 @@ pub use line_laws::{
     columns_are_read, lines_have_one_text, names_are_read, network_lines_are_read,
     node_lines_are_read, numbers_are_read, tail_lines_are_read, texts_have_lines,
 };
+pub use tree_text_rules::{MergeFault, Place, Refusal, TreeKind, Why, Word, valid_is_well_formed};

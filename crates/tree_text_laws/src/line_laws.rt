@@ -4,7 +4,7 @@ ghost use Rattle.tree_text_laws.specs.LineLaws.{NamesAreRead};
 ghost use Rattle.tree_text_laws.specs.LineLaws.{ColumnsAreRead, NodeLinesAreRead};
 ghost use Rattle.tree_text_laws.specs.LineLaws.{NetworkLinesAreRead, TailLinesAreRead};
 
-use problem_rules::valid_is_well_formed;
+use tree_text_rules::valid_is_well_formed;
 
 /// The text of lines of tokens has these lines.
 pub fn texts_have_lines()

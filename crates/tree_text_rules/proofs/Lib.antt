@@ -2,3 +2,9 @@ mod FirstFaults
 mod LineFaults
 mod Plant
 mod WorkedText
+pub use Rattle.edit_rules.proofs.number_sets as number_sets
+pub use Rattle.tree_rules.proofs.integer_laws as integer_laws
+pub use Rattle.edit_rules.proofs.problem_rules as problem_rules
+pub use Rattle.tree_rules.proofs.pns_rules as pns_rules
+pub use Rattle.tree_rules.proofs.flow_rules as flow_rules
+pub use Rattle.tree_rules.proofs as tree_rules

@@ -1,6 +1,6 @@
 -- The names of a plant, small texts about it, and what is reported of them.
 use Rattle.std.proofs.Common.{◌≡◌, ◌++◌, ℕ, pos, List, [], ◌∷◌, map, flat_map, codes, Err}
-use Rattle.problem_rules.specs.Problem.{Problem, Material, OperatingUnit, intermediate}
+use Rattle.edit_rules.specs.problem_rules.Problem.{Problem, Material, OperatingUnit, intermediate}
 use Rattle.tree_text_rules.specs.declared.TreeKind.{TreeKind}
 use Rattle.tree_text_rules.specs.Read.{Fault, read_text, read_headed_text}
 

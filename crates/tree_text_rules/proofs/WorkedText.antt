@@ -2,14 +2,14 @@
 use Rattle.std.proofs.Common.{◌≡◌, ◌++◌, ℕ, pos, negsuc, List, [], ◌∷◌, map, codes, refl, Ok, Some}
 use Rattle.std.proofs.Common.{None}
 use Rattle.std.specs.Fmt.{digits}
-use Rattle.pns_rules.specs.Nodes.{raw, rival, starve, loose, sole}
-use Rattle.integer_laws.specs.declared.which.Which.TheVariants as whiches
-use Rattle.flow_rules.specs.declared.place.Column.TheVariants as columns
-use Rattle.flow_rules.specs.declared.place.FlowStep.TheVariants as flows
-use Rattle.flow_rules.specs.declared.place.Place.{Place}
-use Rattle.flow_rules.specs.declared.place.Place.TheVariants as places
-use Rattle.flow_rules.specs.Cover.{Cover}
-use Rattle.flow_rules.specs.ChargeLeaf.{Handed}
+use Rattle.tree_rules.specs.pns_rules.Nodes.{raw, rival, starve, loose, sole}
+use Rattle.tree_rules.specs.integer_laws.declared.which.Which.TheVariants as whiches
+use Rattle.tree_rules.specs.flow_rules.declared.place.Column.TheVariants as columns
+use Rattle.tree_rules.specs.flow_rules.declared.place.FlowStep.TheVariants as flows
+use Rattle.tree_rules.specs.flow_rules.declared.place.Place.{Place}
+use Rattle.tree_rules.specs.flow_rules.declared.place.Place.TheVariants as places
+use Rattle.tree_rules.specs.flow_rules.Cover.{Cover}
+use Rattle.tree_rules.specs.flow_rules.ChargeLeaf.{Handed}
 use Rattle.tree_rules.specs.Ways.{at_material, either}
 use Rattle.tree_rules.specs.Tree.{TreeNode, branch, leaf}
 use Rattle.tree_rules.specs.Leaf.{Leaf, dead, clash, refuted, bounded, charged, untried}

@@ -6,12 +6,12 @@ use Rattle.std.specs.Prelude.{codes}
 use Rattle.std.specs.Prelude.{Option}
 use Rattle.std.specs.Prelude.{Some, None, Result, Ok, Err, if◌then◌else◌}
 use Rattle.std.specs.Str.{bytes_eq}
-use Rattle.problem_rules.specs.Problem.{Problem}
-use Rattle.pns_rules.specs.Nodes as nodes
-use Rattle.flow_rules.specs.declared.place.Column.{Column}
-use Rattle.flow_rules.specs.declared.place.Place.{Place}
-use Rattle.flow_rules.specs.declared.place.Place.TheVariants as places
-use Rattle.flow_rules.specs.Cover.{Cover}
+use Rattle.edit_rules.specs.problem_rules.Problem.{Problem}
+use Rattle.tree_rules.specs.pns_rules.Nodes as nodes
+use Rattle.tree_rules.specs.flow_rules.declared.place.Column.{Column}
+use Rattle.tree_rules.specs.flow_rules.declared.place.Place.{Place}
+use Rattle.tree_rules.specs.flow_rules.declared.place.Place.TheVariants as places
+use Rattle.tree_rules.specs.flow_rules.Cover.{Cover}
 use Rattle.tree_rules.specs.Ways as ways
 use Rattle.tree_rules.specs.Tree as trees
 use Rattle.tree_rules.specs.Leaf as leaves

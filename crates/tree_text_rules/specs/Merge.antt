@@ -1,8 +1,8 @@
 -- What is answered if a part is put back, from the tree and the part. Each answer but that there
 -- was no memory has its cause, and no two causes are true together.
 use Rattle.std.specs.Prelude.{◌≡◌, ℕ, true, [], ◌∷◌}
-use Rattle.problem_rules.specs.Problem.{Problem}
-use Rattle.pns_rules.specs.Shape.{shape_of}
+use Rattle.edit_rules.specs.problem_rules.Problem.{Problem}
+use Rattle.tree_rules.specs.pns_rules.Shape.{shape_of}
 use Rattle.tree_rules.specs.Claim as rules
 use Rattle.tree_rules.specs.Accepted as trees
 use Rattle.tree_rules.specs.Accepted.{first_node, IsPartial}
@@ -11,7 +11,8 @@ use Rattle.tree_text_rules.specs.OpenLeaves.{StandsOpen}
 use Rattle.tree_rules.specs.declared.refusal.Refusal.TheVariants as refusals
 use Rattle.tree_rules.specs.Refusals.{Refuses}
 use Rattle.tree_text_rules.specs.declared.merge_fault.MergeFault.{MergeFault}
-use Rattle.tree_text_rules.specs.declared.merge_fault.MergeFault.TheVariants.{Tree, Part, NoLeaf, Memory}
+use Rattle.tree_text_rules.specs.declared.merge_fault.MergeFault.TheVariants.{Tree, Part, NoLeaf}
+use Rattle.tree_text_rules.specs.declared.merge_fault.MergeFault.TheVariants.{Memory}
 use Rattle.tree_text_rules.specs.Part as parts
 use Rattle.tree_text_rules.specs.Part.{start_of}
 

@@ -1,7 +1,7 @@
 -- The open leaves of a tree: where a search in parts goes on.
 use Rattle.std.specs.Prelude.{◌≡◌, ◌⊎◌, ℕ, ◌+◌, List, [], ◌∷◌, ◌++◌, Option}
-use Rattle.pns_rules.specs.Shape.{Shape}
-use Rattle.pns_rules.specs.Nodes.{Node}
+use Rattle.tree_rules.specs.pns_rules.Shape.{Shape}
+use Rattle.tree_rules.specs.pns_rules.Nodes.{Node}
 use Rattle.tree_rules.specs.Tree.{End, leaf, after_all, below, Stands}
 use Rattle.tree_rules.specs.Leaf.{Leaf, Scaled, untried}
 use Rattle.tree_rules.specs.Accepted.{Tree}

@@ -1,7 +1,7 @@
 -- Parts: what a run found from a node of its own.
 use Rattle.std.specs.Prelude.{ℕ, List}
-use Rattle.number_sets.specs.Sets.{has, Avoids}
-use Rattle.pns_rules.specs.Nodes.{Node}
+use Rattle.edit_rules.specs.number_sets.Sets.{has, Avoids}
+use Rattle.tree_rules.specs.pns_rules.Nodes.{Node}
 use Rattle.tree_rules.specs.Claim.{Claim}
 use Rattle.tree_rules.specs.Accepted.{Tree}
 use Rattle.tree_rules.specs.Tail.{Tail}

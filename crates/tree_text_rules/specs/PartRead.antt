@@ -3,9 +3,9 @@
 use Rattle.std.specs.Prelude.{◌≡◌, ◌⊎◌, ◌&&◌, ℕ, Bool, true, false, List, [], ◌∷◌, codes, Result}
 use Rattle.std.specs.Prelude.{Ok, Err}
 use Rattle.std.specs.Str.{bytes_eq}
-use Rattle.problem_rules.specs.Problem.{Problem}
+use Rattle.edit_rules.specs.problem_rules.Problem.{Problem}
 use Rattle.tree_rules.specs.Known.{AreUnits}
-use Rattle.pns_rules.specs.Tokens.{token_of}
+use Rattle.tree_rules.specs.pns_rules.Tokens.{token_of}
 use Rattle.tree_text_rules.specs.Line.{Token, Line, tokens_of, is_formed, lines_of}
 use Rattle.tree_text_rules.specs.Read.{Fault, Certificate, rest_taken}
 use Rattle.tree_text_rules.specs.declared.TreeKind.{TreeKind}

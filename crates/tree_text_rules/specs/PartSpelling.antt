@@ -1,9 +1,9 @@
 -- The one text of a part, as lines of tokens: the two sets of units of the node from which its run
 -- began, and then the lines of a tree text from its claim on.
 use Rattle.std.specs.Prelude.{ℕ, List, [], ◌∷◌, codes}
-use Rattle.problem_rules.specs.Problem.{Problem}
+use Rattle.edit_rules.specs.problem_rules.Problem.{Problem}
 use Rattle.tree_rules.specs.Known.{AreUnits, KnowsClaim, KnowsTree, KnowsTail}
-use Rattle.pns_rules.specs.Tokens.{token_of}
+use Rattle.tree_rules.specs.pns_rules.Tokens.{token_of}
 use Rattle.tree_text_rules.specs.Line.{Token}
 use Rattle.tree_text_rules.specs.Spelling.{rest_lines, text_of}
 use Rattle.tree_text_rules.specs.Part.{Part}

@@ -1,7 +1,7 @@
 -- Parts that are put back in turn, each into what the ones before it gave. If there are no parts,
 -- the claim and the tree stay as they are, and are not judged.
 use Rattle.std.specs.Prelude.{◌≡◌, ◌<◌, ℕ, List, [], ◌∷◌, length, take, get_or}
-use Rattle.problem_rules.specs.Problem.{Problem}
+use Rattle.edit_rules.specs.problem_rules.Problem.{Problem}
 use Rattle.tree_rules.specs.Claim as rules
 use Rattle.tree_rules.specs.Accepted as trees
 use Rattle.tree_text_rules.specs.declared.merge_fault.MergeFault.{MergeFault}

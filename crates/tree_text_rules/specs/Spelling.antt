@@ -3,18 +3,18 @@
 use Rattle.std.specs.Prelude.{ℕ, ℤ, List, [], ◌∷◌, ◌++◌, map, flat_map, codes, decimal, Option}
 use Rattle.std.specs.Prelude.{Some, None}
 use Rattle.std.specs.Fmt.{signed_decimal}
-use Rattle.problem_rules.specs.Problem.{Problem, unit_at, material_at, exclusion_at}
-use Rattle.pns_rules.specs.Nodes as nodes
-use Rattle.text_rules.specs.Canonical.{joined}
-use Rattle.integer_laws.specs.declared.which.Which.{Which}
-use Rattle.integer_laws.specs.declared.which.Which.TheVariants as whiches
-use Rattle.flow_rules.specs.declared.place.Column.{Column}
-use Rattle.flow_rules.specs.declared.place.Column.TheVariants as columns
-use Rattle.flow_rules.specs.declared.place.FlowStep.{FlowStep}
-use Rattle.flow_rules.specs.declared.place.FlowStep.TheVariants as flows
-use Rattle.flow_rules.specs.declared.place.Place.{Place}
-use Rattle.flow_rules.specs.declared.place.Place.TheVariants as places
-use Rattle.flow_rules.specs.Cover.{Cover}
+use Rattle.edit_rules.specs.problem_rules.Problem.{Problem, unit_at, material_at, exclusion_at}
+use Rattle.tree_rules.specs.pns_rules.Nodes as nodes
+use Rattle.edit_rules.specs.text_rules.Canonical.{joined}
+use Rattle.tree_rules.specs.integer_laws.declared.which.Which.{Which}
+use Rattle.tree_rules.specs.integer_laws.declared.which.Which.TheVariants as whiches
+use Rattle.tree_rules.specs.flow_rules.declared.place.Column.{Column}
+use Rattle.tree_rules.specs.flow_rules.declared.place.Column.TheVariants as columns
+use Rattle.tree_rules.specs.flow_rules.declared.place.FlowStep.{FlowStep}
+use Rattle.tree_rules.specs.flow_rules.declared.place.FlowStep.TheVariants as flows
+use Rattle.tree_rules.specs.flow_rules.declared.place.Place.{Place}
+use Rattle.tree_rules.specs.flow_rules.declared.place.Place.TheVariants as places
+use Rattle.tree_rules.specs.flow_rules.Cover.{Cover}
 use Rattle.tree_rules.specs.Ways as ways
 use Rattle.tree_rules.specs.Tree as trees
 use Rattle.tree_rules.specs.Leaf as leaves

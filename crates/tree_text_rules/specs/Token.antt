@@ -5,14 +5,15 @@ use Rattle.std.specs.Prelude.{nat_lt, List, [], ◌∷◌, codes, drop, nat_eq, 
 use Rattle.std.specs.Prelude.{option_map, position, Result, Ok, Err, if◌then◌else◌}
 use Rattle.std.specs.List.{starts_with}
 use Rattle.std.specs.Str.{bytes_eq}
-use Rattle.problem_rules.specs.Problem.{Problem, material_names, unit_names, exclusion_names}
+use Rattle.edit_rules.specs.problem_rules.Problem.{Problem, material_names, unit_names}
+use Rattle.edit_rules.specs.problem_rules.Problem.{exclusion_names}
 use Rattle.edit_rules.specs.ScriptFault.{whole_within}
-use Rattle.integer_laws.specs.declared.which.Which.{Which}
-use Rattle.integer_laws.specs.declared.which.Which.TheVariants as whiches
-use Rattle.flow_rules.specs.declared.place.Column.{Column}
-use Rattle.flow_rules.specs.declared.place.Column.TheVariants as columns
-use Rattle.flow_rules.specs.declared.place.FlowStep.{FlowStep}
-use Rattle.flow_rules.specs.declared.place.FlowStep.TheVariants as flows
+use Rattle.tree_rules.specs.integer_laws.declared.which.Which.{Which}
+use Rattle.tree_rules.specs.integer_laws.declared.which.Which.TheVariants as whiches
+use Rattle.tree_rules.specs.flow_rules.declared.place.Column.{Column}
+use Rattle.tree_rules.specs.flow_rules.declared.place.Column.TheVariants as columns
+use Rattle.tree_rules.specs.flow_rules.declared.place.FlowStep.{FlowStep}
+use Rattle.tree_rules.specs.flow_rules.declared.place.FlowStep.TheVariants as flows
 use Rattle.tree_text_rules.specs.Line.{Token}
 use Rattle.tree_text_rules.specs.declared.TreeKind.{TreeKind}
 use Rattle.tree_text_rules.specs.declared.TreeKind.TheVariants.{FileType, BadLine, UnknownName}

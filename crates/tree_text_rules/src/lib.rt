@@ -18,7 +18,12 @@
 
 mod merge_fault;
 
+pub use edit_rules::{Section, valid_is_well_formed};
 pub use merge_fault::MergeFault;
+pub use tree_rules::{
+    Axiom, ChargeWhy, Column, FlowStep, HeadRefusal, LineWhy, Place, Refusal, Verdict, Which, Why,
+    one_fault, sums_are_last, valid_is_proper,
+};
 
 /// A fault of a tree's text. The variants are in the order of their numbers, 1 to 9. The least line
 /// that has a fault is reported, and of its faults the one with the least number. But `MoreNodes`

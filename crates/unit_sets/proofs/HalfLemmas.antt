@@ -5,9 +5,9 @@ use Rattle.std.proofs.Common.{arith, Some, None}
 use Rattle.std.proofs.lemmas.Bool.{cases_lt, or_from, ne_eqb, eqb-true, eq-eqb}
 use Rattle.number_sets.specs.Sets.{has, first, IsBelowAll, IsRising, AreBelow, IsSet, kept}
 use Rattle.number_sets.specs.Sets.{with_number, union, meet, minus, IsWithin}
-use Rattle.number_sets.proofs.SetLemmas.{has_below, has-append, same_sets, same_tests, has-union}
-use Rattle.number_sets.proofs.SetLemmas.{has-meet, has-minus, has-kept, has-with_number}
-use Rattle.number_sets.proofs.SetLemmas.{IsRising-union, IsRising-kept, IsRising-with_number}
+use Rattle.number_sets.proofs.Cited.{has_below, has-append, same_sets, same_tests, has-union}
+use Rattle.number_sets.proofs.Cited.{has-meet, has-minus, has-kept, has-with_number, IsRising-union}
+use Rattle.number_sets.proofs.Cited.{IsRising-kept, IsRising-with_number}
 use Rattle.std.proofs.Common.{length-append}
 use Rattle.std.proofs.lemmas.List.{length-map}
 use Rattle.unit_sets.specs.Halves.{halves, lows, highs, IsHalves}

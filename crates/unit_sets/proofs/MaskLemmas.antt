@@ -18,10 +18,9 @@ use Rattle.std.proofs.Math.Pow.{pow-lt}
 use Rattle.std.specs.Int.{bit_at}
 use Rattle.number_sets.specs.Sets.{has, IsRising, AreBelow, listed, IsWithin, with_number, kept}
 use Rattle.number_sets.specs.Sets.{union, meet, minus, mask_of, first}
-use Rattle.number_sets.proofs.SetLemmas.{below_not_had, has-listed, IsRising-listed}
-use Rattle.number_sets.proofs.SetLemmas.{AreBelow-listed, same_sets, has-with_number, has-kept}
-use Rattle.number_sets.proofs.SetLemmas.{has-union, has-meet, has-minus, IsRising-with_number}
-use Rattle.number_sets.proofs.SetLemmas.{IsRising-kept, IsRising-union}
+use Rattle.number_sets.proofs.Cited.{below_not_had, has-listed, IsRising-listed, AreBelow-listed}
+use Rattle.number_sets.proofs.Cited.{same_sets, has-with_number, has-kept, has-union, has-meet}
+use Rattle.number_sets.proofs.Cited.{has-minus, IsRising-with_number, IsRising-kept, IsRising-union}
 use Rattle.unit_sets.specs.Masks.{has_bit, members}
 use Rattle.unit_sets.specs.MaskInverse.{split_bit, mask_of-members}
 

@@ -13,8 +13,7 @@ use Rattle.std.proofs.Math.Nat.{div-add-mod}
 use Rattle.std.specs.Int.{w128, trailing_ones, bit_at}
 use Rattle.number_sets.specs.Sets.{has, IsSet, IsWithin, Avoids}
 use Rattle.number_sets.specs.Options.{IsBetween, IsNextOption}
-use Rattle.number_sets.proofs.OptionLemmas.{IsCarried, next_is}
-use Rattle.number_sets.proofs.SetLemmas.{same_tests}
+use Rattle.number_sets.proofs.Cited.{IsCarried, next_is, same_tests}
 use Rattle.unit_sets.specs.Masks.{has_bit, members}
 use Rattle.unit_sets.specs.MaskInverse.{split_bit}
 use Rattle.unit_sets.proofs.MaskLemmas.{has-members, has_bit-or, has_bit-and, has_bit-not}

@@ -7,7 +7,7 @@ use Rattle.std.proofs.lemmas.Bool.{cases_order, both_ways, and_left, and_right, 
 use Rattle.std.proofs.lemmas.Nat.{and_le_l}
 use Rattle.std.specs.Int.{w128, trailing_zeros}
 use Rattle.number_sets.specs.Sets.{has, first, IsBelowAll, IsSet}
-use Rattle.number_sets.proofs.SetLemmas.{same_sets}
+use Rattle.number_sets.proofs.Cited.{same_sets}
 use Rattle.unit_sets.specs.Masks.{has_bit, members}
 use Rattle.unit_sets.proofs.MaskLemmas.{IsRising-members, AreBelow-members, has-members}
 use Rattle.unit_sets.proofs.MaskLemmas.{has_bit-and, first-members}

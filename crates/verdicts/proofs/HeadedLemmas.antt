@@ -1,8 +1,8 @@
 -- Heads without lines.
 use Rattle.std.proofs.Common.{◌≡◌, ◌==◌, List, [], ◌∷◌, length, refl, arith}
 use Rattle.std.proofs.lemmas.Bool.{ne_eqb}
-use Rattle.branch_tree.specs.HeadView.{lines_of}
-use Rattle.branch_tree.specs.declared.line.HeadLine.{HeadLine}
+use Rattle.tree_parts.specs.branch_tree.HeadView.{lines_of}
+use Rattle.tree_parts.specs.branch_tree.declared.line.HeadLine.{HeadLine}
 use Rattle.report_rules.specs.HeadedVerdict.{is_plain}
 
 -- a head has no lines just if its list is empty

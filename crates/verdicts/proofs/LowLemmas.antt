@@ -1,11 +1,11 @@
 -- What a tree that is judged for its lower bound alone proves.
 use Rattle.std.proofs.Common.{◌≡◌, Option, Some, None, ap, sym}
-use Rattle.problem_rules.specs.Problem.{Problem}
-use Rattle.problem_rules.specs.Validity.{IsValid}
-use Rattle.tree_rules.specs.Claim.{Claim, CostOver}
-use Rattle.tree_rules.specs.Accepted.{Tree, first_node, IsPartial}
-use Rattle.tree_rules.specs.Lower.{Low, lower_bound}
-use Rattle.tree_laws.specs.Laws.{LowerBoundOfAll}
+use Rattle.report_rules.specs.problem_rules.Problem.{Problem}
+use Rattle.report_rules.specs.problem_rules.Validity.{IsValid}
+use Rattle.report_rules.specs.tree_rules.Claim.{Claim, CostOver}
+use Rattle.report_rules.specs.tree_rules.Accepted.{Tree, first_node, IsPartial}
+use Rattle.report_rules.specs.tree_rules.Lower.{Low, lower_bound}
+use Rattle.tree_parts.specs.tree_laws.Laws.{LowerBoundOfAll}
 use Rattle.report_rules.specs.declared.lower_bound.LowerBound.{LowerBound}
 use Rattle.report_rules.specs.RankLow.{IsLowerBound, AllCostEnough}
 use Rattle.report_rules.specs.Verdict.{cost_of, known_cost}

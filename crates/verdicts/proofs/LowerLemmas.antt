@@ -6,32 +6,33 @@ use Rattle.std.specs.Prelude.{option_map}
 use Rattle.std.specs.List.{slice_get}
 use Rattle.std.proofs.lemmas.List.{drop_all, length-map}
 use Rattle.std.proofs.lemmas.Option.{slice_get-map, slice_get_read}
-use Rattle.number_sets.specs.Sets.{has}
-use Rattle.integer_laws.specs.Range.{InRange}
-use Rattle.problem_rules.specs.Each.{Each}
-use Rattle.problem_rules.specs.Problem.{Problem}
-use Rattle.pns_rules.specs.Shape.{shape_of}
-use Rattle.pns_rules.specs.Nodes.{Node}
-use Rattle.pgraph.specs.View.{node_of}
-use Rattle.flow_rules.specs.Net.{net_of}
-use Rattle.flow_rules.specs.Relaxed.{bound}
-use Rattle.flow_rules.specs.BoundSteps.{bound_steps}
-use Rattle.flow_rules.specs.Steps.{AreInRange, IsFirstPast, last_from}
-use Rattle.flow_rules.proofs.LastLemmas.{bound_is_last}
-use Rattle.flow_rules.proofs.LeadingLemmas.{not_both}
-use Rattle.tree_rules.specs.Tree.{End, TreeNode, branch, leaf, after_all, below, Pass, EndPasses}
-use Rattle.tree_rules.specs.Claim.{Claim, CostOver, claimed_cost}
-use Rattle.tree_rules.specs.Leaf.{Leaf, dead, clash, refuted, bounded, charged, untried}
-use Rattle.tree_rules.specs.Leaf.{Scaled, LeafPasses, IsLow, multiplier}
-use Rattle.tree_rules.specs.Accepted.{Tree, first_node, IsPartial}
-use Rattle.tree_rules.specs.Lower.{Low, both_low, bound_over, end_low, open_low, least}
-use Rattle.tree_rules.specs.Lower.{lower_bound}
-use Rattle.tree_text_rules.specs.OpenLeaves.{OpenAt, open_here, open_leaves}
-use Rattle.cert_check.specs.Known.{KnowsInside}
-use Rattle.cert_check.specs.declared.open_leaf.OpenLeaf.{OpenLeaf}
-use Rattle.cert_check.specs.OpenLeaves.{leaf_at, leaves_at}
-use Rattle.cert_check.specs.Subtrees.{AllKnown}
-use Rattle.cert_check.proofs.KnownLemmas.{known_after_all, known_below, known_both}
+use Rattle.report_rules.specs.number_sets.Sets.{has}
+use Rattle.report_rules.specs.integer_laws.Range.{InRange}
+use Rattle.report_rules.specs.problem_rules.Each.{Each}
+use Rattle.report_rules.specs.problem_rules.Problem.{Problem}
+use Rattle.report_rules.specs.pns_rules.Shape.{shape_of}
+use Rattle.report_rules.specs.pns_rules.Nodes.{Node}
+use Rattle.tree_parts.specs.pgraph.View.{node_of}
+use Rattle.report_rules.specs.flow_rules.Net.{net_of}
+use Rattle.report_rules.specs.flow_rules.Relaxed.{bound}
+use Rattle.report_rules.specs.flow_rules.BoundSteps.{bound_steps}
+use Rattle.report_rules.specs.flow_rules.Steps.{AreInRange, IsFirstPast, last_from}
+use Rattle.report_rules.proofs.flow_rules.Cited.{bound_is_last, not_both}
+use Rattle.report_rules.specs.tree_rules.Tree.{End, TreeNode, branch, leaf, after_all, below, Pass}
+use Rattle.report_rules.specs.tree_rules.Tree.{EndPasses}
+use Rattle.report_rules.specs.tree_rules.Claim.{Claim, CostOver, claimed_cost}
+use Rattle.report_rules.specs.tree_rules.Leaf.{Leaf, dead, clash, refuted, bounded, charged}
+use Rattle.report_rules.specs.tree_rules.Leaf.{untried}
+use Rattle.report_rules.specs.tree_rules.Leaf.{Scaled, LeafPasses, IsLow, multiplier}
+use Rattle.report_rules.specs.tree_rules.Accepted.{Tree, first_node, IsPartial}
+use Rattle.report_rules.specs.tree_rules.Lower.{Low, both_low, bound_over, end_low, open_low, least}
+use Rattle.report_rules.specs.tree_rules.Lower.{lower_bound}
+use Rattle.report_rules.specs.tree_text_rules.OpenLeaves.{OpenAt, open_here, open_leaves}
+use Rattle.tree_parts.specs.cert_check.Known.{KnowsInside}
+use Rattle.tree_parts.specs.cert_check.declared.open_leaf.OpenLeaf.{OpenLeaf}
+use Rattle.tree_parts.specs.cert_check.OpenLeaves.{leaf_at, leaves_at}
+use Rattle.tree_parts.specs.cert_check.Subtrees.{AllKnown}
+use Rattle.tree_parts.proofs.cert_check.Cited.{known_after_all, known_below, known_both}
 use Rattle.report_rules.specs.Verdict.{known_cost}
 use Rattle.verdicts.specs.Lower.{low_there, low_at, lows, IsFormedThere, IsFormedAt}
 

@@ -3,12 +3,14 @@ use Rattle.std.proofs.Common.{◌≡◌, ◌<◌, ◌≤◌, ◌+◌, ◌++◌, 
 use Rattle.std.proofs.Common.{drop}
 use Rattle.std.proofs.Common.{get_or, refl, sym, ap, subst, append_assoc}
 use Rattle.std.proofs.lemmas.List.{drop_more, drop_all, append-nil}
-use Rattle.tree_rules.specs.Tree.{TreeNode, End, branch, leaf, children, HasChildren, IsForest}
-use Rattle.tree_rules.specs.Tree.{IsTree}
-use Rattle.tree_rules.specs.Leaf.{Leaf, dead, clash, refuted, bounded, charged, untried}
-use Rattle.tree_rules.specs.Accepted.{Tree}
-use Rattle.rank_rules.specs.Marked.{Mark, marked, marked_node, marked_end}
-use Rattle.rank_rules.specs.Marked.{marks_behind}
+use Rattle.report_rules.specs.tree_rules.Tree.{TreeNode, End, branch, leaf, children, HasChildren}
+use Rattle.report_rules.specs.tree_rules.Tree.{IsForest}
+use Rattle.report_rules.specs.tree_rules.Tree.{IsTree}
+use Rattle.report_rules.specs.tree_rules.Leaf.{Leaf, dead, clash, refuted, bounded, charged}
+use Rattle.report_rules.specs.tree_rules.Leaf.{untried}
+use Rattle.report_rules.specs.tree_rules.Accepted.{Tree}
+use Rattle.report_rules.specs.rank_rules.Marked.{Mark, marked, marked_node, marked_end}
+use Rattle.report_rules.specs.rank_rules.Marked.{marks_behind}
 use Rattle.report_rules.specs.RankLow.{plain_end, plain_node, plain_tree}
 
 -- ---- the form

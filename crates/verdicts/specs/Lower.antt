@@ -1,15 +1,15 @@
 -- The lower bound of a tree, from its open leaves one after another.
 use Rattle.std.specs.Prelude.{List, [], ◌∷◌, Option, Some, None}
 use Rattle.std.specs.List.{slice_get}
-use Rattle.problem_rules.specs.Problem.{Problem}
-use Rattle.pns_rules.specs.Shape.{shape_of}
-use Rattle.pns_rules.specs.Nodes.{Node}
-use Rattle.tree_rules.specs.Tree.{End, TreeNode, leaf}
-use Rattle.tree_rules.specs.Leaf.{Leaf, untried, IsLow}
-use Rattle.tree_rules.specs.Accepted.{Tree}
-use Rattle.tree_rules.specs.Lower.{Low, both_low, leaf_low}
-use Rattle.cert_check.specs.Known.{KnowsInside}
-use Rattle.tree_text_rules.specs.OpenLeaves.{OpenAt}
+use Rattle.report_rules.specs.problem_rules.Problem.{Problem}
+use Rattle.report_rules.specs.pns_rules.Shape.{shape_of}
+use Rattle.report_rules.specs.pns_rules.Nodes.{Node}
+use Rattle.report_rules.specs.tree_rules.Tree.{End, TreeNode, leaf}
+use Rattle.report_rules.specs.tree_rules.Leaf.{Leaf, untried, IsLow}
+use Rattle.report_rules.specs.tree_rules.Accepted.{Tree}
+use Rattle.report_rules.specs.tree_rules.Lower.{Low, both_low, leaf_low}
+use Rattle.tree_parts.specs.cert_check.Known.{KnowsInside}
+use Rattle.report_rules.specs.tree_text_rules.OpenLeaves.{OpenAt}
 use Rattle.report_rules.specs.declared.lower_bound.LowerBound.{LowerBound}
 use Rattle.report_rules.specs.Verdict.{cost_of}
 

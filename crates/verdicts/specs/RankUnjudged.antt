@@ -1,6 +1,6 @@
 -- Why there is no verdict on a ranking. `Memory`, out of memory, says nothing of it.
-use Rattle.problem_rules.specs.Problem.{Problem}
-use Rattle.rank_rules.specs.Ranked.{Ranking, NetworkIsFault}
+use Rattle.report_rules.specs.problem_rules.Problem.{Problem}
+use Rattle.report_rules.specs.rank_rules.Ranked.{Ranking, NetworkIsFault}
 use Rattle.verdicts.specs.declared.rank_verdict.RankUnjudged.{RankUnjudged}
 use Rattle.verdicts.specs.declared.rank_verdict.RankUnjudged.TheVariants.{Memory, Network}
 

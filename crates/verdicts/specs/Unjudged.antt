@@ -1,7 +1,7 @@
 -- Why there is no verdict on a claim. `Memory`, out of memory, says nothing of the claim.
 use Rattle.std.specs.Prelude.{Bool, true}
-use Rattle.problem_rules.specs.Problem.{Problem}
-use Rattle.tree_rules.specs.Claim as rules
+use Rattle.report_rules.specs.problem_rules.Problem.{Problem}
+use Rattle.report_rules.specs.tree_rules.Claim as rules
 use Rattle.verdicts.specs.declared.verdict.Unjudged.{Unjudged}
 use Rattle.verdicts.specs.declared.verdict.Unjudged.TheVariants.{Memory, Claim}
 

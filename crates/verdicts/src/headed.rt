@@ -1,18 +1,14 @@
 //! The verdict on a claim with a tree that has a head.
 ghost use Rattle.std.specs.Prelude.{◌≡◌, ◌<◌, ◌^◌, length, IfOk, IfErr, true, false};
-ghost use Rattle.tree_rules.specs.Claim.{ClaimPasses};
-ghost use Rattle.branch_tree.specs.View.{claim_of};
+ghost use Rattle.report_rules.specs.tree_rules.Claim.{ClaimPasses};
+ghost use Rattle.tree_parts.specs.branch_tree.View.{claim_of};
 ghost use Rattle.report_rules.specs.HeadedVerdict.{is_plain, IsHeadedVerdict};
 ghost use Rattle.verdicts.specs.Unjudged.{IsUnjudgedIf};
 
 use crate::verdict::Unjudged;
-use branch_tree::{Claim, Tree};
-use cert_check::check_headed;
-use branch_tree::Head;
-use tree_rules::HeadRefusal;
-use pgraph::Site;
-use report_rules::HeadedVerdict;
+use report_rules::{HeadRefusal, HeadedVerdict};
 use std::alloc::Global;
+use tree_parts::{Claim, Head, Site, Tree, check_headed};
 
 /// Whether a head has no lines.
 pub fn is_plain(head: &Head) -> bool

@@ -27,5 +27,17 @@ mod verdict;
 
 pub use headed::{headed_verdict_of, is_plain};
 pub use low::low_of;
+pub use rank_check::{network_has_one_fault, ranking_has_one_fault};
 pub use rank_verdict::{RankUnjudged, rank_verdict_of};
+pub use report_rules::{
+    HeadedVerdict, LineWhy, LowerBound, MergeFault, Refusal, TreeKind, Verdict, Why,
+};
+pub use tree_parts::{
+    Claim, Effort, Graph, Head, Headed, Network, Node, OpenLeaf, Outputs, Part, PrintFault,
+    Problem, Shelf, Sink, Site, Tail, Tree, TreeFault, UnitSet, Watch, check_claim,
+    grafts_are_partial, is_sound, maximal, merge_all, open_leaves, open_leaves_stand,
+    order_is_free, parts_are_read_once, plain_texts_are_headed, print_network, print_part,
+    print_token, print_tree, read_part, read_parts_are_spelled, read_texts_are_spelled,
+    spelled_parts_read, spelled_texts_read, units_named,
+};
 pub use verdict::{Unjudged, verdict_of};

@@ -1,22 +1,17 @@
 //! The lower bound of a tree, judged for it alone.
 ghost use Rattle.std.specs.Prelude.{◌≡◌, ◌<◌, ◌^◌, ◌∷◌, [], length, IfOk, OnOk};
-ghost use Rattle.pns_rules.specs.Shape.{shape_of};
-ghost use Rattle.branch_tree.specs.View.{claim_of};
-ghost use Rattle.tree_rules.specs.Accepted.{first_node, IsPartial};
-ghost use Rattle.tree_text_rules.specs.OpenLeaves.{open_leaves};
-ghost use Rattle.cert_check.specs.OpenLeaves.{leaves_at};
-ghost use Rattle.cert_check.specs.Refusals.{IsOkOrMemory};
+ghost use Rattle.report_rules.specs.pns_rules.Shape.{shape_of};
+ghost use Rattle.tree_parts.specs.branch_tree.View.{claim_of};
+ghost use Rattle.report_rules.specs.tree_rules.Accepted.{first_node, IsPartial};
+ghost use Rattle.report_rules.specs.tree_text_rules.OpenLeaves.{open_leaves};
+ghost use Rattle.tree_parts.specs.cert_check.OpenLeaves.{leaves_at};
+ghost use Rattle.tree_parts.specs.cert_check.Refusals.{IsOkOrMemory};
 ghost use Rattle.report_rules.specs.RankLow.{IsLowerBound, AllCostEnough};
 
 use crate::lower::lower_bound;
-use branch_tree::{Claim, Tree};
-use cert_check::{OpenLeaf, check_from};
-use pgraph::Site;
-use report_rules::LowerBound;
+use report_rules::{LowerBound, Refusal};
 use std::alloc::{AllocError, Global};
-use tree_laws::lower_bound_holds;
-use tree_rules::Refusal;
-use unit_sets::{Node, UnitSet};
+use tree_parts::{Claim, Node, OpenLeaf, Site, Tree, UnitSet, check_from, lower_bound_holds};
 
 /// Judges the claim, and then the tree, whose leaves may be open, and gives the open leaves.
 fn walked(

@@ -1,25 +1,20 @@
 //! The lower bound of a tree with open leaves.
 ghost use Rattle.std.specs.Prelude.{◌≡◌, ℕ, ◌∷◌, [], ◌<◌, IfSome, Some, length};
-ghost use Rattle.pns_rules.specs.Shape.{shape_of};
-ghost use Rattle.pgraph.specs.View.{node_of};
-ghost use Rattle.branch_tree.specs.View.{claim_of};
-ghost use Rattle.tree_rules.specs.Accepted.{first_node, IsPartial};
-ghost use Rattle.tree_rules.specs.Claim.{claimed_cost};
-ghost use Rattle.tree_rules.specs.Leaf.{IsLow, untried};
-ghost use Rattle.tree_rules.specs.Lower.{leaf_low, bound_over, least, lower_bound};
-ghost use Rattle.cert_check.specs.Known.{KnowsInside};
-ghost use Rattle.cert_check.specs.OpenLeaves.{leaf_at, leaves_at};
-ghost use Rattle.tree_text_rules.specs.OpenLeaves.{open_leaves};
+ghost use Rattle.report_rules.specs.pns_rules.Shape.{shape_of};
+ghost use Rattle.tree_parts.specs.pgraph.View.{node_of};
+ghost use Rattle.tree_parts.specs.branch_tree.View.{claim_of};
+ghost use Rattle.report_rules.specs.tree_rules.Accepted.{first_node, IsPartial};
+ghost use Rattle.report_rules.specs.tree_rules.Claim.{claimed_cost};
+ghost use Rattle.report_rules.specs.tree_rules.Leaf.{IsLow, untried};
+ghost use Rattle.report_rules.specs.tree_rules.Lower.{leaf_low, bound_over, least, lower_bound};
+ghost use Rattle.tree_parts.specs.cert_check.Known.{KnowsInside};
+ghost use Rattle.tree_parts.specs.cert_check.OpenLeaves.{leaf_at, leaves_at};
+ghost use Rattle.report_rules.specs.tree_text_rules.OpenLeaves.{open_leaves};
 ghost use Rattle.report_rules.specs.Verdict.{cost_of, known_cost};
 ghost use Rattle.verdicts.specs.Lower.{as_low, low_at, IsFormedAt};
 
-use branch_tree::{Claim, End, Scaled, Tree};
-use cert_check::OpenLeaf;
-use flow_program::bound_of;
-use exact_numbers::CostOver;
-use pgraph::Site;
 use report_rules::LowerBound;
-use unit_sets::Node;
+use tree_parts::{Claim, CostOver, End, Node, OpenLeaf, Scaled, Site, Tree, bound_of};
 
 /// The bound of a leaf by these multipliers.
 fn bound_by(site: &Site<'_>, node: Node, low: &Scaled) -> LowerBound

@@ -1,14 +1,16 @@
 //! A ranking as an ordinary tree, which is to prove its best network.
 ghost use Rattle.std.specs.Prelude.{◌≡◌, map, IfOk};
-ghost use Rattle.branch_tree.specs.View.{claim_of, end_of};
+ghost use Rattle.tree_parts.specs.branch_tree.View.{claim_of, end_of};
 ghost use Rattle.rank_check.specs.View.{mark_of};
-ghost use Rattle.rank_rules.specs.Marked.{marked, marked_node, marked_end, marks_behind};
+ghost use Rattle.report_rules.specs.rank_rules.Marked.{marked, marked_node, marked_end};
+ghost use Rattle.report_rules.specs.rank_rules.Marked.{marks_behind};
 ghost use Rattle.report_rules.specs.RankLow as rules;
 
-use branch_tree::{Claim, End, Network, Steps, Tree, TreeNode};
 use rank_check::{Mark, RankText};
 use std::alloc::{AllocError, Global};
-use tree_parts::{copied_end, copied_network, copied_scaled};
+use tree_parts::{
+    Claim, End, Network, Steps, Tree, TreeNode, copied_end, copied_network, copied_scaled,
+};
 
 /// The claim of the first network, if there is one.
 pub(crate) fn best_claim(alloc: Global, networks: &[Network]) -> Result<Claim, AllocError>

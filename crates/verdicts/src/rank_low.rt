@@ -1,14 +1,14 @@
 //! The lower bound of a ranking.
 ghost use Rattle.std.specs.Prelude.{◌<◌, ◌^◌, length, IfOk};
-ghost use Rattle.rank_rules.specs.Text.{ranking_of};
+ghost use Rattle.report_rules.specs.rank_rules.Text.{ranking_of};
 ghost use Rattle.report_rules.specs.RankLow.{IsRankLow, AllCostEnough};
 
+use crate::low_of;
 use crate::plain::{best_claim, plain_tree};
-use pgraph::Site;
 use rank_check::RankText;
 use report_rules::LowerBound;
 use std::alloc::{AllocError, Global};
-use crate::low_of;
+use tree_parts::Site;
 
 /// The lower bound of the ranking, if it is known.
 pub(crate) fn rank_low(

@@ -1,22 +1,19 @@
 //! The verdict on a ranking.
 ghost use Rattle.std.specs.Prelude.{◌<◌, ◌^◌, [], length, IfOk, IfErr};
-ghost use Rattle.rank_rules.specs.Networks.{ArePassing};
-ghost use Rattle.rank_rules.specs.Text.{ranking_of};
-ghost use Rattle.rank_rules.specs.declared.why.RankWhy.TheVariants as causes;
-ghost use Rattle.tree_rules.specs.declared.why.Why.TheVariants as whys;
+ghost use Rattle.report_rules.specs.rank_rules.Networks.{ArePassing};
+ghost use Rattle.report_rules.specs.rank_rules.Text.{ranking_of};
+ghost use Rattle.report_rules.specs.rank_rules.declared.why.RankWhy.TheVariants as causes;
+ghost use Rattle.report_rules.specs.tree_rules.declared.why.Why.TheVariants as whys;
 ghost use Rattle.report_rules.specs.RankLow.{AllCostEnough};
 ghost use Rattle.report_rules.specs.RankVerdict as rules;
 ghost use Rattle.report_rules.specs.RankVerdict.{StopsAt, IsRankVerdict};
 ghost use Rattle.verdicts.specs.RankUnjudged.{IsRankUnjudged};
 
 use crate::rank_low::rank_low;
-use pgraph::Site;
-use rank_check::{RankRefusal, check_rank};
-use rank_rules::RankWhy;
-use rank_check::RankText;
-use report_rules::RankVerdict;
+use rank_check::{RankRefusal, RankText, check_rank};
+use report_rules::{RankVerdict, RankWhy, Why};
 use std::alloc::Global;
-use tree_rules::Why;
+use tree_parts::Site;
 
 /// Why there is no verdict.
 #[derive(Clone, Copy, Debug, PartialEq, Eq)]

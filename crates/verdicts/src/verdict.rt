@@ -1,19 +1,15 @@
 //! The verdict on a claim with its tree.
 ghost use Rattle.std.specs.Prelude.{◌≡◌, ◌<◌, ◌^◌, length, IfOk, IfErr, true};
-ghost use Rattle.tree_rules.specs.Claim.{ClaimPasses};
-ghost use Rattle.tree_rules.specs.Accepted.{first_node, IsAccepted};
-ghost use Rattle.branch_tree.specs.View.{claim_of};
+ghost use Rattle.report_rules.specs.tree_rules.Claim.{ClaimPasses};
+ghost use Rattle.report_rules.specs.tree_rules.Accepted.{first_node, IsAccepted};
+ghost use Rattle.tree_parts.specs.branch_tree.View.{claim_of};
 ghost use Rattle.report_rules.specs.Verdict.{IsVerdict};
 ghost use Rattle.verdicts.specs.Unjudged.{IsUnjudged};
 
 use crate::lower::lower_bound;
-use branch_tree::{Claim, Tree};
-use cert_check::{check_from, check_tree};
-use pgraph::Site;
-use report_rules::Verdict;
+use report_rules::{Refusal, Verdict, Why};
 use std::alloc::Global;
-use tree_rules::{Refusal, Why};
-use unit_sets::{Node, UnitSet};
+use tree_parts::{Claim, Node, Site, Tree, UnitSet, check_from, check_tree};
 
 /// Why there is no verdict.
 #[derive(Clone, Copy, Debug, PartialEq, Eq)]

@@ -1,6 +1,6 @@
 use Rattle.std.proofs.Common.{Some, ap, inl, inr, refl}
-use Rattle.tree_rules.specs.Leaf.{Scaled}
-use Rattle.search_tree.specs.declared.shut.Shut.TheVariants as shuts
+use Rattle.node_evaluation.specs.tree_rules.Leaf.{Scaled}
+use Rattle.node_evaluation.specs.search_tree.declared.shut.Shut.TheVariants as shuts
 use Rattle.abb_search.proofs.closing.low_of.Goals as goal
 
 pub returns-then-not-wanted : goal.returns-then-not-wanted

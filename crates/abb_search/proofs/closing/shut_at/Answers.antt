@@ -1,11 +1,11 @@
 use Rattle.std.proofs.Common.{Some, sym, ap, ◌∙◌, subst}
 use Rattle.std.specs.Prelude.{option_copied}
-use Rattle.pns_rules.specs.Shape.{shape_of}
-use Rattle.pns_rules.specs.Ends.{IsSound, IsReduced}
-use Rattle.pgraph.specs.View.{node_of}
-use Rattle.unit_sets.specs.declared.node.Node.{Node}
-use Rattle.tree_rules.specs.Leaf.{Scaled}
-use Rattle.search_tree.specs.Cells.{place_of, cell_at}
+use Rattle.node_evaluation.specs.pns_rules.Shape.{shape_of}
+use Rattle.node_evaluation.specs.pns_rules.Ends.{IsSound, IsReduced}
+use Rattle.node_evaluation.specs.pgraph.View.{node_of}
+use Rattle.node_evaluation.specs.unit_sets.declared.node.Node.{Node}
+use Rattle.node_evaluation.specs.tree_rules.Leaf.{Scaled}
+use Rattle.node_evaluation.specs.search_tree.Cells.{place_of, cell_at}
 use Rattle.node_evaluation.specs.Evaluated.{cost_in, IsBoundOf, IsProof}
 use Rattle.abb_search.specs.declared.closing.Shutting.{Shutting}
 use Rattle.abb_search.specs.Closing.{ProvesLeaf, RefutesLeaf, IsShutBy}

@@ -1,9 +1,9 @@
 use Rattle.std.proofs.Common.{sym, ap, ◌∙◌, subst}
-use Rattle.tree_rules.specs.Tree.{IsTree}
-use Rattle.tree_rules.specs.Accepted.{Tree}
-use Rattle.search_tree.specs.Cells.{Cell}
-use Rattle.search_tree.specs.Shut.{shut_cells}
-use Rattle.search_tree.proofs.ShutLemmas.{shut_at, shut_linked}
+use Rattle.node_evaluation.specs.tree_rules.Tree.{IsTree}
+use Rattle.node_evaluation.specs.tree_rules.Accepted.{Tree}
+use Rattle.node_evaluation.specs.search_tree.Cells.{Cell}
+use Rattle.node_evaluation.specs.search_tree.Shut.{shut_cells}
+use Rattle.node_evaluation.proofs.search_tree.Cited.{shut_at, shut_linked}
 use Rattle.abb_search.proofs.found.shut_tree.Goals as goal
 
 pub from_nodes-requires : goal.from_nodes-requires

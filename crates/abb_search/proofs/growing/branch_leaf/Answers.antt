@@ -1,26 +1,26 @@
 use Rattle.std.proofs.Common.{◌≡◌, ◌⊎◌, ◌||◌, ◌+◌, ◌<◌, refl, ap, ◌∙◌, subst, arith, length}
 use Rattle.std.proofs.Common.{reverse, slice_set, ◌++◌, rules, List, Option, None}
-use Rattle.pgraph.specs.View.{node_of}
+use Rattle.node_evaluation.specs.pgraph.View.{node_of}
 use Rattle.std.specs.Prelude.{is_some}
-use Rattle.tree_rules.specs.Claim as claims
-use Rattle.tree_rules.specs.Costs.{HasFallen}
+use Rattle.node_evaluation.specs.tree_rules.Claim as claims
+use Rattle.node_evaluation.specs.tree_rules.Costs.{HasFallen}
 use Rattle.node_evaluation.specs.Looks.{cost_of}
 use Rattle.abb_search.specs.declared.growing.Growing.{Growing}
 use Rattle.std.proofs.lemmas.List.{length-reverse}
 use Rattle.slab.specs.Slab.{Slab, Updates}
-use Rattle.tree_rules.specs.Tree.{End, branch}
-use Rattle.tree_rules.specs.Leaf.{Leaf}
-use Rattle.branch_tree.specs.View.{end_of}
-use Rattle.search_tree.specs.Growth.{as_parent, cells_in_turn}
-use Rattle.search_tree.specs.Cells.{Cell, cell_at}
+use Rattle.node_evaluation.specs.tree_rules.Tree.{End, branch}
+use Rattle.node_evaluation.specs.tree_rules.Leaf.{Leaf}
+use Rattle.node_evaluation.specs.branch_tree.View.{end_of}
+use Rattle.node_evaluation.specs.search_tree.Growth.{as_parent, cells_in_turn}
+use Rattle.node_evaluation.specs.search_tree.Cells.{Cell, cell_at}
 use Rattle.node_evaluation.specs.declared.looks.Ready.{Ready}
 use Rattle.abb_search.proofs.HandLemmas.{as_many_children, freed_from}
 use Rattle.abb_search.proofs.GrowingLemmas.{count_seen, stops_within, room_within, branching}
 use Rattle.abb_search.proofs.GrowingLemmas.{solved_behind}
-use Rattle.node_evaluation.proofs.ChoiceLemmas.{option_count_is, width_is}
+use Rattle.node_evaluation.proofs.Cited.{option_count_is, width_is}
 use Rattle.node_evaluation.specs.Choices.{way_of}
-use Rattle.tree_rules.specs.Ways.{width}
-use Rattle.pns_rules.specs.Shape.{shape_of}
+use Rattle.node_evaluation.specs.tree_rules.Ways.{width}
+use Rattle.node_evaluation.specs.pns_rules.Shape.{shape_of}
 use Rattle.abb_search.proofs.growing.branch_leaf.Goals as goal
 
 pub overflow_cast-count : goal.overflow_cast-count

@@ -1,6 +1,6 @@
 use Rattle.std.proofs.Common.{◌≡◌, true≢false, Some, sym, ap, ◌∙◌, subst, arith, Option}
 use Rattle.std.specs.Prelude.{option_copied}
-use Rattle.tree_rules.specs.Costs.{IsNoMore}
+use Rattle.node_evaluation.specs.tree_rules.Costs.{IsNoMore}
 use Rattle.node_evaluation.specs.declared.evaluator.Interval.{Interval}
 use Rattle.node_evaluation.specs.Evaluated.{cost_over}
 use Rattle.abb_search.specs.Worth.{interval_of}

@@ -1,8 +1,8 @@
 use Rattle.std.proofs.Common.{◌∙◌, refl, rules, to_z, of_z, SFits}
 use Rattle.std.specs.Int.{w128}
 use Rattle.std.proofs.lemmas.Int.{to_z-of_z}
-use Rattle.exact_numbers.specs.Number.{numerator, denominator}
-use Rattle.node_evaluation.proofs.ChildLemmas.{same_costs}
+use Rattle.node_evaluation.specs.exact_numbers.Number.{numerator, denominator}
+use Rattle.node_evaluation.proofs.Cited.{same_costs}
 use Rattle.abb_search.proofs.growing.reaches.Goals as goal
 
 pub returns : goal.returns

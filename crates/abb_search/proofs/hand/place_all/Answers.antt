@@ -1,5 +1,5 @@
 use Rattle.std.proofs.Common.{◌≡◌, length, arith, ◌++◌, ◌∷◌, [], List, ap, ◌∙◌, length-append}
-use Rattle.search_tree.specs.declared.growth.Fresh.{Fresh}
+use Rattle.node_evaluation.specs.search_tree.declared.growth.Fresh.{Fresh}
 use Rattle.abb_search.proofs.HandLemmas.{placing_goes_on}
 use Rattle.abb_search.proofs.hand.place_all.Goals as goal
 

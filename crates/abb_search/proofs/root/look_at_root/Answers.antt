@@ -1,11 +1,11 @@
 use Rattle.std.proofs.Common.{ℕ, List, [], ◌∷◌, Option, refl, sym, subst}
-use Rattle.unit_sets.specs.declared.node.Node as starts
-use Rattle.pgraph.specs.View.{node_of}
-use Rattle.tree_rules.specs.Claim as claims
-use Rattle.search_tree.specs.Cells.{Cell}
+use Rattle.node_evaluation.specs.unit_sets.declared.node.Node as starts
+use Rattle.node_evaluation.specs.pgraph.View.{node_of}
+use Rattle.node_evaluation.specs.tree_rules.Claim as claims
+use Rattle.node_evaluation.specs.search_tree.Cells.{Cell}
 use Rattle.node_evaluation.specs.Looks.{IsLooked}
 use Rattle.node_evaluation.specs.Children.{AreSolvedBy}
-use Rattle.node_evaluation.proofs.SolvedLemmas.{solved_by}
+use Rattle.node_evaluation.proofs.Cited.{solved_by}
 use Rattle.abb_search.proofs.HandLemmas.{solved_one}
 use Rattle.abb_search.proofs.RootLemmas.{best_is_found}
 use Rattle.abb_search.proofs.root.look_at_root.Goals as goal

@@ -1,5 +1,5 @@
 use Rattle.std.proofs.Common.{Some, subst}
-use Rattle.search_tree.specs.Values.{IsPositive, IsPositiveCost}
+use Rattle.node_evaluation.specs.search_tree.Values.{IsPositive, IsPositiveCost}
 use Rattle.node_evaluation.specs.Evaluated.{cost_in}
 use Rattle.abb_search.specs.Closing.{AreBeaten}
 use Rattle.abb_search.specs.Rounds.{undercut_of, IsBeating}

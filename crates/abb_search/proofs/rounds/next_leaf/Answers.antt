@@ -1,5 +1,5 @@
 use Rattle.std.proofs.Common.{Option, refl, sym, subst, ◌∙◌}
-use Rattle.tree_rules.specs.Claim.{CostOver}
+use Rattle.node_evaluation.specs.tree_rules.Claim.{CostOver}
 use Rattle.abb_search.specs.declared.rounds.Next.{Next}
 use Rattle.abb_search.specs.Growing.{IsGrowingFor}
 use Rattle.abb_search.specs.Rounds.{undercut_of, IsNext, RoundHolds}

@@ -1,5 +1,5 @@
 use Rattle.std.proofs.Common.{◌∙◌, Option, subst}
-use Rattle.pgraph.specs.View.{node_of}
+use Rattle.node_evaluation.specs.pgraph.View.{node_of}
 use Rattle.node_evaluation.specs.Looks.{cost_of}
 use Rattle.abb_search.specs.declared.outcome.Found.{Found}
 use Rattle.abb_search.specs.Answers.{IsMore, IsEnd, StepHolds}

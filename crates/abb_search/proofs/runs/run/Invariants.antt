@@ -1,5 +1,5 @@
 use Rattle.std.proofs.Common.{◌≡◌, ◌-◌, length}
-use Rattle.tree_rules.specs.Costs.{HasFallen}
+use Rattle.node_evaluation.specs.tree_rules.Costs.{HasFallen}
 use Rattle.node_evaluation.specs.Looks.{cost_of}
 use Rattle.abb_search.specs.Growing.{IsGoing}
 use Rattle.abb_search.proofs.runs.run.Given as goal

@@ -1,4 +1,4 @@
-use Rattle.pgraph.specs.View.{node_of}
+use Rattle.node_evaluation.specs.pgraph.View.{node_of}
 use Rattle.abb_search.proofs.StepLemmas.{passes_positive, best_passes, against_after}
 use Rattle.abb_search.proofs.RootLemmas.{root_after, root_positive}
 use Rattle.std.proofs.Common.{true}

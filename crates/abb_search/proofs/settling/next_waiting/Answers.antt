@@ -1,6 +1,6 @@
 use Rattle.std.proofs.Common.{not, sym, ap, ◌∙◌, arith}
 use Rattle.std.proofs.lemmas.Bool.{and_from}
-use Rattle.link_lists.specs.Lists.{has}
+use Rattle.node_evaluation.specs.link_lists.Lists.{has}
 use Rattle.abb_search.specs.Worth.{is_settled}
 use Rattle.abb_search.specs.Growing.{ready_at}
 use Rattle.abb_search.proofs.ReadyLemmas.{second_has}

@@ -1,5 +1,5 @@
 use Rattle.std.proofs.Common.{length, List, ap, subst, arith, Option, ◌∙◌}
-use Rattle.search_tree.specs.Cells.{Cell}
+use Rattle.node_evaluation.specs.search_tree.Cells.{Cell}
 use Rattle.abb_search.specs.declared.growing.StoppedLeaf.{StoppedLeaf}
 use Rattle.abb_search.specs.Settling.{SettleHolds, StaysSettling}
 use Rattle.abb_search.proofs.SameLemmas.{same_trans}

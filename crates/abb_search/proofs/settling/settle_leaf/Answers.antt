@@ -1,10 +1,10 @@
 use Rattle.std.proofs.Common.{◌<◌, sym, subst}
-use Rattle.pgraph.specs.View.{node_of}
-use Rattle.unit_sets.specs.declared.node.Node.{Node}
-use Rattle.tree_rules.specs.Leaf.{IsRefuted}
-use Rattle.node_pool.specs.Pooled.{Pooled}
+use Rattle.node_evaluation.specs.pgraph.View.{node_of}
+use Rattle.node_evaluation.specs.unit_sets.declared.node.Node.{Node}
+use Rattle.node_evaluation.specs.tree_rules.Leaf.{IsRefuted}
+use Rattle.node_evaluation.specs.node_pool.Pooled.{Pooled}
 use Rattle.slab.specs.Slab.{get, Updates}
-use Rattle.search_tree.specs.Cells.{Cell}
+use Rattle.node_evaluation.specs.search_tree.Cells.{Cell}
 use Rattle.node_evaluation.specs.declared.looks.Settling.{Settling}
 use Rattle.node_evaluation.specs.Evaluated.{IsBoundOf}
 use Rattle.node_evaluation.specs.Looks.{IsSettling}

@@ -1,11 +1,11 @@
 use Rattle.std.proofs.Common.{◌≡◌, List, ℤ, Some, None, sym, ap, ◌∙◌, subst}
 use Rattle.std.specs.Prelude.{option_copied}
 use Rattle.slab.specs.Slab.{get}
-use Rattle.pns_rules.specs.Shape.{shape_of}
-use Rattle.pns_rules.specs.Ends.{IsSound, IsReduced}
-use Rattle.pgraph.specs.View.{node_of}
-use Rattle.unit_sets.specs.declared.node.Node.{Node}
-use Rattle.tree_rules.specs.Leaf.{IsRefuted}
+use Rattle.node_evaluation.specs.pns_rules.Shape.{shape_of}
+use Rattle.node_evaluation.specs.pns_rules.Ends.{IsSound, IsReduced}
+use Rattle.node_evaluation.specs.pgraph.View.{node_of}
+use Rattle.node_evaluation.specs.unit_sets.declared.node.Node.{Node}
+use Rattle.node_evaluation.specs.tree_rules.Leaf.{IsRefuted}
 use Rattle.abb_search.specs.Growing.{ready_at}
 use Rattle.abb_search.proofs.SettleLemmas.{waits_open, never_none, never_settled, refuted_at}
 use Rattle.abb_search.proofs.SettleLemmas.{reduced_there}

@@ -1,12 +1,12 @@
 use Rattle.std.proofs.Common.{◌+◌, ◌≤◌, length, sym, subst, arith}
-use Rattle.pns_rules.specs.Shape.{shape_of}
-use Rattle.pns_rules.specs.Ends.{IsSound, IsReduced}
-use Rattle.pgraph.specs.View.{node_of}
-use Rattle.unit_sets.specs.declared.node.Node.{Node}
+use Rattle.node_evaluation.specs.pns_rules.Shape.{shape_of}
+use Rattle.node_evaluation.specs.pns_rules.Ends.{IsSound, IsReduced}
+use Rattle.node_evaluation.specs.pgraph.View.{node_of}
+use Rattle.node_evaluation.specs.unit_sets.declared.node.Node.{Node}
 use Rattle.node_evaluation.specs.declared.choice.Choice.{Choice}
 use Rattle.node_evaluation.specs.Choices.{IsChoice, way_of, option_count}
-use Rattle.search_tree.specs.Cells.{cell_at}
-use Rattle.node_evaluation.proofs.ChoiceLemmas.{option_count_is}
+use Rattle.node_evaluation.specs.search_tree.Cells.{cell_at}
+use Rattle.node_evaluation.proofs.Cited.{option_count_is}
 use Rattle.abb_search.specs.Growing.{IsBranching}
 use Rattle.abb_search.proofs.SameLemmas.{same_room, err_same}
 use Rattle.abb_search.proofs.StepLemmas.{more_after}

@@ -1,8 +1,8 @@
 use Rattle.std.proofs.Common.{rules, ◌≡◌, refl, sym, ap, ◌∙◌, subst, Option, Some}
-use Rattle.tree_rules.specs.Claim as claims
-use Rattle.tree_rules.specs.Claim.{claimed_cost}
-use Rattle.search_tree.specs.Preorder.{IsTreeOf}
-use Rattle.search_tree.specs.Shut.{shut_cells}
+use Rattle.node_evaluation.specs.tree_rules.Claim as claims
+use Rattle.node_evaluation.specs.tree_rules.Claim.{claimed_cost}
+use Rattle.node_evaluation.specs.search_tree.Preorder.{IsTreeOf}
+use Rattle.node_evaluation.specs.search_tree.Shut.{shut_cells}
 use Rattle.node_evaluation.specs.Children.{claim_with}
 use Rattle.abb_search.specs.declared.outcome.Found.{Found}
 use Rattle.abb_search.specs.declared.outcome.Found.TheVariants as founds

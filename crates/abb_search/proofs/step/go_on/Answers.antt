@@ -1,6 +1,6 @@
 use Rattle.std.proofs.Common.{Option, None, sym, subst}
-use Rattle.tree_rules.specs.Claim as claims
-use Rattle.tree_rules.specs.Claim.{claimed_cost}
+use Rattle.node_evaluation.specs.tree_rules.Claim as claims
+use Rattle.node_evaluation.specs.tree_rules.Claim.{claimed_cost}
 use Rattle.node_evaluation.specs.Children.{claim_with}
 use Rattle.abb_search.specs.declared.rounds.Next.{Next}
 use Rattle.abb_search.specs.Rounds.{IsNextLeaf, IsStopLeaf, EndsWith, IsNext}

@@ -1,7 +1,7 @@
 use Rattle.std.proofs.Common.{◌∙◌, List, length, Option, sym, ap, subst}
-use Rattle.search_tree.specs.Cells.{Cell}
-use Rattle.tree_rules.specs.Claim as claims
-use Rattle.tree_rules.specs.Costs.{HasFallen}
+use Rattle.node_evaluation.specs.search_tree.Cells.{Cell}
+use Rattle.node_evaluation.specs.tree_rules.Claim as claims
+use Rattle.node_evaluation.specs.tree_rules.Costs.{HasFallen}
 use Rattle.node_evaluation.specs.Looks.{cost_of}
 use Rattle.node_evaluation.specs.Children.{IsBest}
 use Rattle.abb_search.specs.Searched.{StandsAt}

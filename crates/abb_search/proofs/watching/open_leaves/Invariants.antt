@@ -1,5 +1,5 @@
 use Rattle.std.proofs.Common.{◌≡◌, ℕ, true, Some}
-use Rattle.link_lists.specs.Lists.{has}
+use Rattle.node_evaluation.specs.link_lists.Lists.{has}
 use Rattle.abb_search.proofs.watching.open_leaves.Given as goal
 
 abbrev pub invariant-leaves : goal.invariant-leaves

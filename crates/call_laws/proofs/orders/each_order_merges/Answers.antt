@@ -1,4 +1,4 @@
-use Rattle.studio.proofs.Merged.{merged_reads}
+use Rattle.studio.proofs.Cited.{merged_reads}
 use Rattle.call_laws.proofs.PartOrderLemmas.{each_order_merges}
 use Rattle.call_laws.proofs.orders.each_order_merges.Goals as goal
 

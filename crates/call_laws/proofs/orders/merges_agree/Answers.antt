@@ -1,4 +1,4 @@
-use Rattle.studio.proofs.Merged.{merged_reads}
+use Rattle.studio.proofs.Cited.{merged_reads}
 use Rattle.call_laws.proofs.PartOrderLemmas.{merges_agree}
 use Rattle.call_laws.proofs.orders.merges_agree.Goals as goal
 

@@ -1,8 +1,8 @@
 use Rattle.std.proofs.Common.{ℕ, refl, true, false, sym, subst, add-one}
 use Rattle.std.proofs.lemmas.Bool.{both_ways}
-use Rattle.pgraph.specs.Tables.{shape}
-use Rattle.pgraph.specs.View.{node_of}
-use Rattle.pgraph.specs.CoversView.{covers_of}
+use Rattle.charges.specs.pgraph.Tables.{shape}
+use Rattle.charges.specs.pgraph.View.{node_of}
+use Rattle.charges.specs.pgraph.CoversView.{covers_of}
 use Rattle.cert_check.proofs.CoverLemmas.{ArePassed, kept_at, none_passed, passes_on, stops_here}
 use Rattle.cert_check.proofs.CoverLemmas.{all_passed}
 use Rattle.cert_check.proofs.charge.all_pass.Goals as goal

@@ -1,6 +1,6 @@
-use Rattle.pgraph.specs.Tables.{shape}
-use Rattle.pgraph.specs.View.{node_of}
-use Rattle.pgraph.specs.CoversView.{covers_of}
+use Rattle.charges.specs.pgraph.Tables.{shape}
+use Rattle.charges.specs.pgraph.View.{node_of}
+use Rattle.charges.specs.pgraph.CoversView.{covers_of}
 use Rattle.cert_check.proofs.CoverLemmas.{ArePassed}
 use Rattle.cert_check.proofs.charge.all_pass.Given as goal
 

@@ -1,13 +1,13 @@
 use Rattle.std.proofs.Common.{◌∙◌, rules, SFits}
 use Rattle.std.specs.Int.{w128}
 use Rattle.std.proofs.lemmas.Int.{to_z-of_z}
-use Rattle.pgraph.specs.View.{node_of}
-use Rattle.flow_rules.specs.Net.{net_of, beside}
-use Rattle.flow_rules.specs.Relaxed.{rows}
-use Rattle.flow_rules.proofs.LeadingLemmas.{not_both}
-use Rattle.flow_rules.specs.ChargeSteps.{charge_steps}
+use Rattle.charges.specs.pgraph.View.{node_of}
+use Rattle.tree_text_rules.specs.flow_rules.Net.{net_of, beside}
+use Rattle.tree_text_rules.specs.flow_rules.Relaxed.{rows}
+use Rattle.tree_text_rules.proofs.flow_rules.Cited.{not_both}
+use Rattle.tree_text_rules.specs.flow_rules.ChargeSteps.{charge_steps}
 use Rattle.charges.specs.Known.{facts_of}
-use Rattle.pgraph.specs.CoversView.{covers_of}
+use Rattle.charges.specs.pgraph.CoversView.{covers_of}
 use Rattle.cert_check.proofs.ChargeLemmas.{few_covers, beside_small}
 use Rattle.cert_check.proofs.charge.formed_charge.Goals as goal
 

@@ -1,8 +1,8 @@
 use Rattle.std.proofs.Common.{◌↔◌, Option, IsTrue, inl, inr, sym, subst}
 use Rattle.std.proofs.lemmas.Int.{to_z-of_z}
-use Rattle.flow_rules.specs.ChargeLeaf.{IsScale}
-use Rattle.tree_rules.specs.Leaf.{IsClaimed}
-use Rattle.exact_numbers.specs.declared.cost.CostOver.{CostOver}
+use Rattle.tree_text_rules.specs.flow_rules.ChargeLeaf.{IsScale}
+use Rattle.tree_text_rules.specs.tree_rules.Leaf.{IsClaimed}
+use Rattle.charges.specs.exact_numbers.declared.cost.CostOver.{CostOver}
 use Rattle.cert_check.specs.Shown.{cost_over}
 use Rattle.cert_check.proofs.ChargeLemmas.{zero_or_more, not_below}
 use Rattle.cert_check.proofs.charge.is_charge_scale.Goals as goal

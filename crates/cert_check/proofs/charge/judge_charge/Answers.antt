@@ -2,9 +2,9 @@ use Rattle.std.proofs.Common.{sym, subst, rules, SFits}
 use Rattle.std.specs.Int.{w128}
 use Rattle.std.proofs.lemmas.Bool.{both_ways}
 use Rattle.std.proofs.lemmas.Int.{to_z-of_z}
-use Rattle.pns_rules.specs.Shape.{Shape}
-use Rattle.pgraph.specs.View.{node_of}
-use Rattle.flow_rules.specs.ChargeLeaf.{CoversPass}
+use Rattle.tree_text_rules.specs.pns_rules.Shape.{Shape}
+use Rattle.charges.specs.pgraph.View.{node_of}
+use Rattle.tree_text_rules.specs.flow_rules.ChargeLeaf.{CoversPass}
 use Rattle.charges.specs.Known.{facts_of}
 use Rattle.cert_check.specs.Shown.{cost_over, handed}
 use Rattle.cert_check.proofs.ChargeLemmas.{scale_fails, rows_fail, covers_fail, sum_fails}

@@ -1,9 +1,9 @@
 use Rattle.std.proofs.Common.{◌↔◌, Option, IsTrue, refl, false, inl, inr, sym, subst, arith}
 use Rattle.std.proofs.lemmas.Bool.{both_ways}
 use Rattle.std.proofs.lemmas.Int.{ints, to_z-of_z}
-use Rattle.flow_rules.specs.ChargeLeaf.{ChargeReaches}
-use Rattle.tree_rules.specs.Claim.{IsAtLeast}
-use Rattle.exact_numbers.specs.declared.cost.CostOver.{CostOver}
+use Rattle.tree_text_rules.specs.flow_rules.ChargeLeaf.{ChargeReaches}
+use Rattle.tree_text_rules.specs.tree_rules.Claim.{IsAtLeast}
+use Rattle.charges.specs.exact_numbers.declared.cost.CostOver.{CostOver}
 use Rattle.cert_check.specs.Shown.{cost_over}
 use Rattle.cert_check.proofs.charge.reaches.Goals as goal
 

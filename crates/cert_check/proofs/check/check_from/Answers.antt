@@ -1,14 +1,14 @@
 use Rattle.std.proofs.Common.{◌≡◌, ◌∙◌, [], ◌∷◌, OnOk, IfErr, ap, subst}
-use Rattle.problem_rules.specs.Problem.{Problem}
-use Rattle.flow_rules.specs.Net.{net_of}
-use Rattle.flow_rules.specs.ChargeFacts.{own_facts}
+use Rattle.tree_text_rules.specs.problem_rules.Problem.{Problem}
+use Rattle.tree_text_rules.specs.flow_rules.Net.{net_of}
+use Rattle.tree_text_rules.specs.flow_rules.ChargeFacts.{own_facts}
 use Rattle.charges.specs.Known.{facts_of}
-use Rattle.pns_rules.specs.Shape.{shape_of}
-use Rattle.pgraph.specs.View.{node_of}
-use Rattle.tree_rules.specs.Tree.{Pass}
-use Rattle.tree_rules.specs.Leaf.{LeafPasses, LeafFails}
-use Rattle.tree_rules.specs.Accepted.{Tree, Proves}
-use Rattle.tree_rules.specs.Refusals.{Refuses}
+use Rattle.tree_text_rules.specs.pns_rules.Shape.{shape_of}
+use Rattle.charges.specs.pgraph.View.{node_of}
+use Rattle.tree_text_rules.specs.tree_rules.Tree.{Pass}
+use Rattle.tree_text_rules.specs.tree_rules.Leaf.{LeafPasses, LeafFails}
+use Rattle.tree_text_rules.specs.tree_rules.Accepted.{Tree, Proves}
+use Rattle.tree_text_rules.specs.tree_rules.Refusals.{Refuses}
 use Rattle.branch_tree.specs.View.{claim_of}
 use Rattle.cert_check.specs.Shown.{cost_over}
 use Rattle.cert_check.specs.Refusals.{NamesFault}

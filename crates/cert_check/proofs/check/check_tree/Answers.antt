@@ -1,16 +1,16 @@
 use Rattle.std.proofs.Common.{◌≡◌, ◌∙◌, ℕ, Bool, false, Result, OnOk, IfErr, ap, subst, sym}
-use Rattle.number_sets.specs.Sets.{has}
-use Rattle.pns_rules.specs.Shape.{shape_of}
-use Rattle.pns_rules.specs.Structure.{IsStructure, IsAllowed}
-use Rattle.pns_rules.specs.Nodes.{Node}
-use Rattle.pgraph.specs.View.{node_of}
-use Rattle.tree_rules.specs.Claim.{claimed_cost}
-use Rattle.tree_rules.specs.Accepted.{first_node, Proves, NodeIsFault}
-use Rattle.tree_rules.specs.Costs.{CostsEnough}
+use Rattle.tree_text_rules.specs.number_sets.Sets.{has}
+use Rattle.tree_text_rules.specs.pns_rules.Shape.{shape_of}
+use Rattle.tree_text_rules.specs.pns_rules.Structure.{IsStructure, IsAllowed}
+use Rattle.tree_text_rules.specs.pns_rules.Nodes.{Node}
+use Rattle.charges.specs.pgraph.View.{node_of}
+use Rattle.tree_text_rules.specs.tree_rules.Claim.{claimed_cost}
+use Rattle.tree_text_rules.specs.tree_rules.Accepted.{first_node, Proves, NodeIsFault}
+use Rattle.tree_text_rules.specs.tree_rules.Costs.{CostsEnough}
 use Rattle.branch_tree.specs.View.{claim_of}
-use Rattle.tree_rules.specs.declared.refusal.Refusal.{Refusal}
-use Rattle.tree_rules.specs.declared.refusal.Refusal.TheVariants as refusals
-use Rattle.tree_rules.specs.Refusals.{Refuses}
+use Rattle.tree_text_rules.specs.tree_rules.declared.refusal.Refusal.{Refusal}
+use Rattle.tree_text_rules.specs.tree_rules.declared.refusal.Refusal.TheVariants as refusals
+use Rattle.tree_text_rules.specs.tree_rules.Refusals.{Refuses}
 use Rattle.cert_check.specs.Refusals.{IsOkOrMemory, IsRefusalOrMemory}
 use Rattle.cert_check.proofs.RefusalLemmas.{answer_of, answer_ok, answer_err, answer_or_memory}
 use Rattle.cert_check.proofs.RefusalLemmas.{answer_refused, least}

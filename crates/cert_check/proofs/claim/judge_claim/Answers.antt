@@ -1,8 +1,8 @@
 use Rattle.std.proofs.Common.{◌≡◌, ◌∙◌, sym, ap, subst, Bool, OnOk, IfErr, SFits, rules, to_z, of_z}
 use Rattle.std.specs.Int.{w128}
 use Rattle.std.proofs.lemmas.Int.{to_z-of_z}
-use Rattle.tree_rules.specs.declared.why.Why.{Why}
-use Rattle.tree_rules.specs.Claim as claims
+use Rattle.tree_text_rules.specs.tree_rules.declared.why.Why.{Why}
+use Rattle.tree_text_rules.specs.tree_rules.Claim as claims
 use Rattle.branch_tree.specs.View.{claim_of}
 use Rattle.cert_check.proofs.LeafLemmas.{weaker_fault}
 use Rattle.cert_check.proofs.claim.judge_claim.Goals as goal

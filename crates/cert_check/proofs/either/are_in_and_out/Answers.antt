@@ -1,7 +1,7 @@
 use Rattle.std.proofs.Common.{◌≡◌, ℕ, List, [], ◌∷◌, sym, ap, ◌∙◌, bytes_eq}
 use Rattle.std.proofs.lemmas.Bool.{not-false}
 use Rattle.std.specs.Cmp.Lexicographic.{bytes_decides}
-use Rattle.number_sets.specs.Sets.{with_number}
+use Rattle.tree_text_rules.specs.number_sets.Sets.{with_number}
 use Rattle.cert_check.proofs.EitherLemmas.{two_are, second_of}
 use Rattle.cert_check.proofs.either.are_in_and_out.Goals as goal
 

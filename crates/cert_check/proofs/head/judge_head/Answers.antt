@@ -1,10 +1,10 @@
 use Rattle.std.proofs.Common.{◌≡◌, ◌∙◌, ℕ, suc, drop, ap, sym, subst, add-one}
-use Rattle.problem_rules.specs.Problem.{Problem}
-use Rattle.pgraph.specs.View.{node_of}
-use Rattle.tree_rules.specs.Accepted.{first_node}
+use Rattle.tree_text_rules.specs.problem_rules.Problem.{Problem}
+use Rattle.charges.specs.pgraph.View.{node_of}
+use Rattle.tree_text_rules.specs.tree_rules.Accepted.{first_node}
 use Rattle.cert_check.specs.Shown.{cost_over}
 use Rattle.cert_check.proofs.NodeLemmas.{step_ahead, none_ahead}
-use Rattle.tree_rules.specs.Head.{known_first}
+use Rattle.tree_text_rules.specs.tree_rules.Head.{known_first}
 use Rattle.branch_tree.specs.HeadView.{line_of, lines_of}
 use Rattle.cert_check.specs.View.{known_of}
 use Rattle.cert_check.proofs.HeadLemmas.{Decides, all_decide, line_on, line_fails, none_left}

@@ -1,10 +1,10 @@
 use Rattle.std.proofs.Common.{drop}
-use Rattle.pns_rules.specs.Shape.{shape_of}
-use Rattle.pgraph.specs.View.{node_of}
-use Rattle.tree_rules.specs.Accepted.{first_node}
+use Rattle.tree_text_rules.specs.pns_rules.Shape.{shape_of}
+use Rattle.charges.specs.pgraph.View.{node_of}
+use Rattle.tree_text_rules.specs.tree_rules.Accepted.{first_node}
 use Rattle.cert_check.specs.Known.{KnowsInside}
 use Rattle.cert_check.specs.Shown.{cost_over}
-use Rattle.tree_rules.specs.Head.{known_first}
+use Rattle.tree_text_rules.specs.tree_rules.Head.{known_first}
 use Rattle.branch_tree.specs.HeadView.{lines_of}
 use Rattle.cert_check.specs.View.{known_of}
 use Rattle.cert_check.proofs.HeadLemmas.{Decides}

@@ -1,11 +1,11 @@
 use Rattle.std.proofs.Common.{◌≡◌, ◌∙◌, ◌∷◌, [], false, Result, Err, OnOk, IfErr, ap, subst, sym}
-use Rattle.pns_rules.specs.Shape.{shape_of}
-use Rattle.pgraph.specs.View.{node_of}
+use Rattle.tree_text_rules.specs.pns_rules.Shape.{shape_of}
+use Rattle.charges.specs.pgraph.View.{node_of}
 use Rattle.charges.specs.Known.{facts_of}
-use Rattle.tree_rules.specs.Tree.{Pass}
-use Rattle.tree_rules.specs.Accepted.{Tree}
-use Rattle.tree_rules.specs.declared.head_refusal.HeadRefusal.{HeadRefusal}
-use Rattle.tree_rules.specs.Headed.{LeafPassesBy, LeafFailsBy}
+use Rattle.tree_text_rules.specs.tree_rules.Tree.{Pass}
+use Rattle.tree_text_rules.specs.tree_rules.Accepted.{Tree}
+use Rattle.tree_text_rules.specs.tree_rules.declared.head_refusal.HeadRefusal.{HeadRefusal}
+use Rattle.tree_text_rules.specs.tree_rules.Headed.{LeafPassesBy, LeafFailsBy}
 use Rattle.cert_check.specs.Shown.{cost_over}
 use Rattle.cert_check.specs.Refusals.{NamesFault}
 use Rattle.cert_check.specs.Headed.{NamesFaultBy}
@@ -22,7 +22,7 @@ returns-clause-passes c =
     let P = LeafPassesBy (facts_of c.args.known.now.facts) false p (cost_over c.args.claimed) in
     let ns = node_of c.args.known.now.node ∷ [] in
     let passes = λ (a : Result (Unit {0}) HeadRefusal).
-            OnOk a (Pass (shape_of p) P ns c.args.tree.now)
+    OnOk a (Pass (shape_of p) P ns c.args.tree.now)
     in
     elim c.match-walk.branch [
       | in-Ok w ↦ subst passes (sym w.result-is)

@@ -1,11 +1,11 @@
 use Rattle.std.proofs.Common.{◌≡◌, List, subst}
-use Rattle.pgraph.specs.View.{node_of}
-use Rattle.tree_rules.specs.Accepted.{first_node}
+use Rattle.charges.specs.pgraph.View.{node_of}
+use Rattle.tree_text_rules.specs.tree_rules.Accepted.{first_node}
 use Rattle.branch_tree.specs.View.{claim_of}
 use Rattle.charges.specs.Known.{facts_of}
 use Rattle.cert_check.specs.Shown.{cost_over}
-use Rattle.tree_rules.specs.Head.{HeadLine, known_first, after_lines, LinesPass}
-use Rattle.tree_rules.specs.HeadFaults.{IsFirstToFail}
+use Rattle.tree_text_rules.specs.tree_rules.Head.{HeadLine, known_first, after_lines, LinesPass}
+use Rattle.tree_text_rules.specs.tree_rules.HeadFaults.{IsFirstToFail}
 use Rattle.cert_check.specs.View.{known_of}
 use Rattle.cert_check.proofs.HeadedLemmas.{line_refuses, walk_accepts, walk_refuses}
 use Rattle.cert_check.proofs.headed.check_lines.Goals as goal

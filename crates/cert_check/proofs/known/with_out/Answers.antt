@@ -1,6 +1,6 @@
 use Rattle.std.proofs.Common.{ℕ, List, ◌==◌, ap, ◌∙◌}
-use Rattle.number_sets.specs.Sets.{has}
-use Rattle.number_sets.proofs.SetLemmas.{has-with_number}
+use Rattle.tree_text_rules.specs.number_sets.Sets.{has}
+use Rattle.tree_text_rules.proofs.number_sets.Cited.{has-with_number}
 use Rattle.cert_check.proofs.NodeLemmas.{node_out}
 use Rattle.cert_check.proofs.known.with_out.Goals as goal
 

@@ -1,13 +1,13 @@
 use Rattle.std.proofs.Common.{◌∙◌, List, SFits, refl, rules, sym, subst}
 use Rattle.std.specs.Int.{w128}
 use Rattle.std.proofs.lemmas.Int.{to_z-of_z}
-use Rattle.pgraph.specs.View.{node_of}
-use Rattle.flow_rules.specs.Cover.{Cover}
-use Rattle.flow_rules.specs.ChargeLeaf.{Handed, ChargePasses, ChargeFails}
+use Rattle.charges.specs.pgraph.View.{node_of}
+use Rattle.tree_text_rules.specs.flow_rules.Cover.{Cover}
+use Rattle.tree_text_rules.specs.flow_rules.ChargeLeaf.{Handed, ChargePasses, ChargeFails}
 use Rattle.charges.specs.Known.{facts_of}
-use Rattle.pgraph.specs.Kept.{AreKept}
-use Rattle.tree_rules.specs.Claim.{IsAtLeast}
-use Rattle.tree_rules.specs.Leaf.{IsClaimed}
+use Rattle.charges.specs.pgraph.Kept.{AreKept}
+use Rattle.tree_text_rules.specs.tree_rules.Claim.{IsAtLeast}
+use Rattle.tree_text_rules.specs.tree_rules.Leaf.{IsClaimed}
 use Rattle.cert_check.specs.Shown.{cost_over}
 use Rattle.cert_check.proofs.LeafLemmas.{handed_is}
 use Rattle.cert_check.proofs.leaf.judge_charged.Goals as goal

@@ -1,16 +1,17 @@
 use Rattle.std.proofs.Common.{◌∙◌, sym, ap, ap₂, Bool, Option, List, ℤ, SFits, rules, to_z, of_z}
 use Rattle.std.specs.Int.{w128}
 use Rattle.std.proofs.lemmas.Int.{to_z-of_z}
-use Rattle.pgraph.specs.View.{node_of}
-use Rattle.tree_rules.specs.declared.why.Why.{Why}
-use Rattle.tree_rules.specs.Claim as claims
-use Rattle.tree_rules.specs.Tree.{leaf}
-use Rattle.flow_rules.specs.ChargeLeaf.{Handed}
-use Rattle.tree_rules.specs.Leaf.{Leaf, dead, clash, refuted, bounded, charged, untried, LeafPasses}
-use Rattle.tree_rules.specs.Leaf.{LeafFails}
+use Rattle.charges.specs.pgraph.View.{node_of}
+use Rattle.tree_text_rules.specs.tree_rules.declared.why.Why.{Why}
+use Rattle.tree_text_rules.specs.tree_rules.Claim as claims
+use Rattle.tree_text_rules.specs.tree_rules.Tree.{leaf}
+use Rattle.tree_text_rules.specs.flow_rules.ChargeLeaf.{Handed}
+use Rattle.tree_text_rules.specs.tree_rules.Leaf.{Leaf, dead, clash, refuted, bounded, charged}
+use Rattle.tree_text_rules.specs.tree_rules.Leaf.{untried, LeafPasses}
+use Rattle.tree_text_rules.specs.tree_rules.Leaf.{LeafFails}
 use Rattle.branch_tree.specs.View.{end_of}
 use Rattle.charges.specs.Known.{facts_of}
-use Rattle.tree_rules.specs.Headed.{LeafPassesBy, LeafFailsBy}
+use Rattle.tree_text_rules.specs.tree_rules.Headed.{LeafPassesBy, LeafFailsBy}
 use Rattle.cert_check.specs.Shown.{cost_over}
 use Rattle.cert_check.proofs.LeafLemmas.{passes_at, fails_at}
 use Rattle.cert_check.proofs.leaf.judge_leaf.Goals as goal

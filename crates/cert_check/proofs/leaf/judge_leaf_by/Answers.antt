@@ -1,11 +1,11 @@
 use Rattle.std.proofs.Common.{Bool, Option, None, sym, ap, subst}
-use Rattle.pgraph.specs.View.{node_of}
-use Rattle.tree_rules.specs.declared.why.Why.{Why}
-use Rattle.tree_rules.specs.Claim.{CostOver}
-use Rattle.tree_rules.specs.Leaf.{Leaf, untried, LeafPasses, LeafFails}
+use Rattle.charges.specs.pgraph.View.{node_of}
+use Rattle.tree_text_rules.specs.tree_rules.declared.why.Why.{Why}
+use Rattle.tree_text_rules.specs.tree_rules.Claim.{CostOver}
+use Rattle.tree_text_rules.specs.tree_rules.Leaf.{Leaf, untried, LeafPasses, LeafFails}
 use Rattle.branch_tree.specs.View.{end_of}
 use Rattle.charges.specs.Known.{facts_of}
-use Rattle.tree_rules.specs.Headed.{LeafPassesBy, LeafFailsBy}
+use Rattle.tree_text_rules.specs.tree_rules.Headed.{LeafPassesBy, LeafFailsBy}
 use Rattle.cert_check.specs.Shown.{cost_over}
 use Rattle.cert_check.specs.Bare.{as_judged}
 use Rattle.cert_check.specs.Visits.{leaf_passes, leaf_fails}

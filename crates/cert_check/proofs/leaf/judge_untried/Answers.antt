@@ -1,10 +1,10 @@
 use Rattle.std.proofs.Common.{◌∙◌, Option, Some, SFits, OnOk, IfErr, rules, ap, sym, subst}
 use Rattle.std.specs.Int.{w128}
 use Rattle.std.proofs.lemmas.Int.{to_z-of_z}
-use Rattle.pgraph.specs.View.{node_of}
-use Rattle.tree_rules.specs.declared.why.Why.{Why}
-use Rattle.tree_rules.specs.Claim.{CostOver}
-use Rattle.tree_rules.specs.Leaf.{Scaled, untried, LeafPasses, LeafFails}
+use Rattle.charges.specs.pgraph.View.{node_of}
+use Rattle.tree_text_rules.specs.tree_rules.declared.why.Why.{Why}
+use Rattle.tree_text_rules.specs.tree_rules.Claim.{CostOver}
+use Rattle.tree_text_rules.specs.tree_rules.Leaf.{Scaled, untried, LeafPasses, LeafFails}
 use Rattle.cert_check.proofs.LeafLemmas.{scaled_is}
 use Rattle.cert_check.proofs.leaf.judge_untried.Goals as goal
 

@@ -1,7 +1,7 @@
 use Rattle.std.proofs.Common.{◌≤◌, ◌<◌, ℕ, subst, sym}
 use Rattle.std.proofs.lemmas.Bool.{leb-true, le-leb}
-use Rattle.pgraph.specs.Tables.{shape}
-use Rattle.pgraph.proofs.ExclusionLemmas.{clash_from, clash_to}
+use Rattle.charges.specs.pgraph.Tables.{shape}
+use Rattle.charges.proofs.pgraph.Cited.{clash_from, clash_to}
 use Rattle.cert_check.proofs.leaves.clashes.Goals as goal
 
 pub returns : goal.returns

@@ -1,11 +1,11 @@
 use Rattle.std.proofs.Common.{◌≡◌, ℕ, List, length, sym, subst, ap, ◌∙◌, eqb-true, eq-eqb}
-use Rattle.number_sets.specs.Sets.{listed}
-use Rattle.pns_rules.specs.Shape.{Shape, IsProper}
-use Rattle.pns_rules.specs.Structure.{mats}
-use Rattle.flow_rules.specs.Net.{net_of}
-use Rattle.flow_rules.specs.Relaxed.{stays, rows}
-use Rattle.pgraph.specs.Tables.{shape}
-use Rattle.pgraph.specs.View.{node_of}
+use Rattle.tree_text_rules.specs.number_sets.Sets.{listed}
+use Rattle.tree_text_rules.specs.pns_rules.Shape.{Shape, IsProper}
+use Rattle.tree_text_rules.specs.pns_rules.Structure.{mats}
+use Rattle.tree_text_rules.specs.flow_rules.Net.{net_of}
+use Rattle.tree_text_rules.specs.flow_rules.Relaxed.{stays, rows}
+use Rattle.charges.specs.pgraph.Tables.{shape}
+use Rattle.charges.specs.pgraph.View.{node_of}
 use Rattle.cert_check.proofs.RowLemmas.{left_known, rows_are}
 use Rattle.cert_check.proofs.leaves.is_one_each.Goals as goal
 

@@ -3,16 +3,16 @@ use Rattle.std.proofs.Common.{SFits, to_z, of_z}
 use Rattle.std.specs.Int.{w128}
 use Rattle.std.proofs.lemmas.Bool.{both_ways}
 use Rattle.std.proofs.lemmas.Int.{to_z-of_z}
-use Rattle.pgraph.specs.View.{node_of}
-use Rattle.problem_rules.specs.Problem.{Problem}
-use Rattle.flow_rules.specs.Net.{net_of}
-use Rattle.flow_rules.specs.Relaxed.{bound}
-use Rattle.flow_rules.specs.Steps.{AreInRange, IsFirstPast}
-use Rattle.flow_rules.specs.BoundSteps.{bound_steps}
-use Rattle.flow_rules.proofs.LeadingLemmas.{not_both}
-use Rattle.tree_rules.specs.declared.why.Why.TheVariants as causes
-use Rattle.tree_rules.specs.Leaf.{multiplier, bounded, LeafPasses, LeafFails}
-use Rattle.exact_numbers.specs.declared.cost.CostOver.{CostOver}
+use Rattle.charges.specs.pgraph.View.{node_of}
+use Rattle.tree_text_rules.specs.problem_rules.Problem.{Problem}
+use Rattle.tree_text_rules.specs.flow_rules.Net.{net_of}
+use Rattle.tree_text_rules.specs.flow_rules.Relaxed.{bound}
+use Rattle.tree_text_rules.specs.flow_rules.Steps.{AreInRange, IsFirstPast}
+use Rattle.tree_text_rules.specs.flow_rules.BoundSteps.{bound_steps}
+use Rattle.tree_text_rules.proofs.flow_rules.Cited.{not_both}
+use Rattle.tree_text_rules.specs.tree_rules.declared.why.Why.TheVariants as causes
+use Rattle.tree_text_rules.specs.tree_rules.Leaf.{multiplier, bounded, LeafPasses, LeafFails}
+use Rattle.charges.specs.exact_numbers.declared.cost.CostOver.{CostOver}
 use Rattle.cert_check.specs.Shown.{cost_over}
 use Rattle.cert_check.proofs.leaves.judge_bound.Goals as goal
 

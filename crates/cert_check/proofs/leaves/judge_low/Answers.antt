@@ -1,14 +1,14 @@
 use Rattle.std.proofs.Common.{◌≡◌, ℤ, Some, refl, inl, inr, subst, to_z, of_z}
 use Rattle.std.specs.Int.{w128}
 use Rattle.std.proofs.lemmas.Int.{to_z-of_z}
-use Rattle.pgraph.specs.View.{node_of}
-use Rattle.problem_rules.specs.Problem.{Problem}
-use Rattle.flow_rules.specs.Net.{net_of}
-use Rattle.flow_rules.specs.Steps.{AreInRange, IsFirstPast}
-use Rattle.flow_rules.specs.BoundSteps.{bound_steps}
-use Rattle.flow_rules.proofs.LeadingLemmas.{not_both}
-use Rattle.tree_rules.specs.declared.why.Why.TheVariants as causes
-use Rattle.tree_rules.specs.Leaf.{multiplier, untried, LeafPasses, LeafFails}
+use Rattle.charges.specs.pgraph.View.{node_of}
+use Rattle.tree_text_rules.specs.problem_rules.Problem.{Problem}
+use Rattle.tree_text_rules.specs.flow_rules.Net.{net_of}
+use Rattle.tree_text_rules.specs.flow_rules.Steps.{AreInRange, IsFirstPast}
+use Rattle.tree_text_rules.specs.flow_rules.BoundSteps.{bound_steps}
+use Rattle.tree_text_rules.proofs.flow_rules.Cited.{not_both}
+use Rattle.tree_text_rules.specs.tree_rules.declared.why.Why.TheVariants as causes
+use Rattle.tree_text_rules.specs.tree_rules.Leaf.{multiplier, untried, LeafPasses, LeafFails}
 use Rattle.cert_check.proofs.leaves.judge_low.Goals as goal
 
 pub returns-clause-passes : goal.returns-clause-passes

@@ -1,13 +1,13 @@
 use Rattle.std.proofs.Common.{subst, sym, refl, inl, inr, pos}
 use Rattle.std.proofs.lemmas.Bool.{both_ways}
-use Rattle.problem_rules.specs.Problem.{Problem}
-use Rattle.pgraph.specs.View.{node_of}
-use Rattle.flow_rules.specs.Net.{net_of}
-use Rattle.flow_rules.specs.Relaxed.{Refutes}
-use Rattle.flow_rules.specs.Steps.{AreInRange, IsFirstPast}
-use Rattle.flow_rules.specs.BoundSteps.{bound_steps}
-use Rattle.flow_rules.proofs.LeadingLemmas.{not_both}
-use Rattle.tree_rules.specs.Leaf.{multiplier}
+use Rattle.tree_text_rules.specs.problem_rules.Problem.{Problem}
+use Rattle.charges.specs.pgraph.View.{node_of}
+use Rattle.tree_text_rules.specs.flow_rules.Net.{net_of}
+use Rattle.tree_text_rules.specs.flow_rules.Relaxed.{Refutes}
+use Rattle.tree_text_rules.specs.flow_rules.Steps.{AreInRange, IsFirstPast}
+use Rattle.tree_text_rules.specs.flow_rules.BoundSteps.{bound_steps}
+use Rattle.tree_text_rules.proofs.flow_rules.Cited.{not_both}
+use Rattle.tree_text_rules.specs.tree_rules.Leaf.{multiplier}
 use Rattle.cert_check.proofs.leaves.judge_refutation.Goals as goal
 
 pub returns-in-Err-clause-fails : goal.returns-in-Err-clause-fails

@@ -1,8 +1,8 @@
 use Rattle.std.proofs.Common.{◌<◌, arith, rules, SFits}
 use Rattle.std.specs.Int.{w64}
 use Rattle.std.proofs.lemmas.Int.{to_z-of_z}
-use Rattle.pns_rules.specs.Shape.{shape_of}
-use Rattle.pgraph.specs.View.{node_of}
+use Rattle.tree_text_rules.specs.pns_rules.Shape.{shape_of}
+use Rattle.charges.specs.pgraph.View.{node_of}
 use Rattle.charges.specs.Known.{facts_of}
 use Rattle.cert_check.specs.Shown.{cost_over}
 use Rattle.cert_check.specs.View.{known_of}

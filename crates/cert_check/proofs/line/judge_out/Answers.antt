@@ -1,8 +1,8 @@
 use Rattle.std.proofs.Common.{◌<◌, ◌∙◌, arith, sym, subst}
 use Rattle.std.proofs.lemmas.Bool.{both_ways}
-use Rattle.pns_rules.specs.Shape.{Shape, shape_of}
-use Rattle.pgraph.specs.View.{node_of}
-use Rattle.flow_rules.specs.Cover.{IsFree}
+use Rattle.tree_text_rules.specs.pns_rules.Shape.{Shape, shape_of}
+use Rattle.charges.specs.pgraph.View.{node_of}
+use Rattle.tree_text_rules.specs.flow_rules.Cover.{IsFree}
 use Rattle.cert_check.specs.Shown.{cost_over}
 use Rattle.cert_check.specs.View.{known_of}
 use Rattle.cert_check.proofs.LineLemmas.{inside_with, inside_out, free_fails, out_passes, out_fails}

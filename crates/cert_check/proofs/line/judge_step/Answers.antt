@@ -1,6 +1,6 @@
 use Rattle.std.proofs.Common.{subst}
-use Rattle.pns_rules.specs.Shape.{Shape}
-use Rattle.pgraph.specs.View.{node_of, step_of}
+use Rattle.tree_text_rules.specs.pns_rules.Shape.{Shape}
+use Rattle.charges.specs.pgraph.View.{node_of, step_of}
 use Rattle.cert_check.specs.Known.{KnowsInside}
 use Rattle.cert_check.specs.Shown.{cost_over}
 use Rattle.cert_check.specs.View.{known_of}

@@ -1,7 +1,7 @@
 use Rattle.std.proofs.Common.{◌∙◌, sym}
-use Rattle.number_sets.specs.Sets.{has}
-use Rattle.pgraph.specs.Tables.{shape}
-use Rattle.pgraph.specs.View.{node_of}
+use Rattle.tree_text_rules.specs.number_sets.Sets.{has}
+use Rattle.charges.specs.pgraph.Tables.{shape}
+use Rattle.charges.specs.pgraph.View.{node_of}
 use Rattle.cert_check.proofs.StepLemmas.{needed_known, dead_is}
 use Rattle.cert_check.proofs.materials.is_dead.Goals as goal
 

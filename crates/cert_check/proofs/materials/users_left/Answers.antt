@@ -1,5 +1,5 @@
 use Rattle.std.proofs.Common.{ℕ}
-use Rattle.pgraph.specs.Tables.{shape}
+use Rattle.charges.specs.pgraph.Tables.{shape}
 use Rattle.cert_check.proofs.SetLemmas.{left_is}
 use Rattle.cert_check.proofs.materials.users_left.Goals as goal
 

@@ -2,16 +2,16 @@ use Rattle.std.proofs.Common.{◌≡◌, ◌∙◌, refl, sym, ap, subst, inl, i
 use Rattle.std.specs.Int.{w128}
 use Rattle.std.proofs.lemmas.Bool.{both_ways}
 use Rattle.std.proofs.lemmas.Int.{to_z-of_z}
-use Rattle.number_sets.specs.Sets.{has}
-use Rattle.problem_rules.specs.Problem.{Problem}
-use Rattle.pns_rules.specs.Shape.{Shape, shape_of}
-use Rattle.pns_rules.specs.Structure.{IsStructure, IsAllowed}
-use Rattle.flow_rules.specs.Net.{net_of, beside}
-use Rattle.flow_rules.specs.CostSteps.{cost_steps}
-use Rattle.flow_rules.specs.FeasibleSteps.{feasible_steps}
-use Rattle.flow_rules.proofs.LeadingLemmas.{not_both}
-use Rattle.tree_rules.specs.declared.why.Why.TheVariants as causes
-use Rattle.tree_rules.specs.Claim.{Network, network, IsFeasible, ClaimFails}
+use Rattle.tree_text_rules.specs.number_sets.Sets.{has}
+use Rattle.tree_text_rules.specs.problem_rules.Problem.{Problem}
+use Rattle.tree_text_rules.specs.pns_rules.Shape.{Shape, shape_of}
+use Rattle.tree_text_rules.specs.pns_rules.Structure.{IsStructure, IsAllowed}
+use Rattle.tree_text_rules.specs.flow_rules.Net.{net_of, beside}
+use Rattle.tree_text_rules.specs.flow_rules.CostSteps.{cost_steps}
+use Rattle.tree_text_rules.specs.flow_rules.FeasibleSteps.{feasible_steps}
+use Rattle.tree_text_rules.proofs.flow_rules.Cited.{not_both}
+use Rattle.tree_text_rules.specs.tree_rules.declared.why.Why.TheVariants as causes
+use Rattle.tree_text_rules.specs.tree_rules.Claim.{Network, network, IsFeasible, ClaimFails}
 use Rattle.cert_check.proofs.network.judge_network.Goals as goal
 
 pub returns-in_default-feasible-clause-fails : goal.returns-in_default-feasible-clause-fails

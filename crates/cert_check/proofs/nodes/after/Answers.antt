@@ -1,9 +1,9 @@
 use Rattle.std.proofs.Common.{◌≡◌, ◌==◌, ℕ, Bool, ◌||◌, sym, ap, ◌∙◌, subst}
-use Rattle.number_sets.specs.Sets.{has}
-use Rattle.number_sets.proofs.SetLemmas.{has-union, has-with_number}
-use Rattle.pns_rules.specs.Nodes.{after}
-use Rattle.pgraph.specs.Tables.{shape}
-use Rattle.pgraph.specs.View.{node_of, step_of}
+use Rattle.tree_text_rules.specs.number_sets.Sets.{has}
+use Rattle.tree_text_rules.proofs.number_sets.Cited.{has-union, has-with_number}
+use Rattle.tree_text_rules.specs.pns_rules.Nodes.{after}
+use Rattle.charges.specs.pgraph.Tables.{shape}
+use Rattle.charges.specs.pgraph.View.{node_of, step_of}
 use Rattle.cert_check.proofs.NodeLemmas.{node_out, node_in}
 use Rattle.cert_check.proofs.nodes.after.Goals as goal
 

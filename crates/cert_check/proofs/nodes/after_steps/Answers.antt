@@ -1,7 +1,7 @@
 use Rattle.std.proofs.Common.{ℕ, map, sym, subst, add-one}
 use Rattle.std.proofs.lemmas.Bool.{both_ways}
-use Rattle.pgraph.specs.Tables.{shape}
-use Rattle.pgraph.specs.View.{node_of, step_of}
+use Rattle.charges.specs.pgraph.Tables.{shape}
+use Rattle.charges.specs.pgraph.View.{node_of, step_of}
 use Rattle.cert_check.proofs.NodeLemmas.{IsOnWay, step_ahead, way_on, way_off}
 use Rattle.cert_check.proofs.nodes.after_steps.Goals as goal
 

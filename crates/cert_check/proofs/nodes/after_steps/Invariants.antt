@@ -1,6 +1,6 @@
 use Rattle.std.proofs.Common.{map}
-use Rattle.pgraph.specs.Tables.{shape}
-use Rattle.pgraph.specs.View.{node_of, step_of}
+use Rattle.charges.specs.pgraph.Tables.{shape}
+use Rattle.charges.specs.pgraph.View.{node_of, step_of}
 use Rattle.cert_check.proofs.NodeLemmas.{IsOnWay}
 use Rattle.cert_check.proofs.nodes.after_steps.Given as goal
 

@@ -1,6 +1,6 @@
 use Rattle.std.proofs.Common.{◌∙◌, sym}
-use Rattle.number_sets.specs.Sets.{has}
-use Rattle.pgraph.specs.Tables.{shape}
+use Rattle.tree_text_rules.specs.number_sets.Sets.{has}
+use Rattle.charges.specs.pgraph.Tables.{shape}
 use Rattle.cert_check.proofs.StepLemmas.{needed_known}
 use Rattle.cert_check.proofs.nodes.are_all_options.Goals as goal
 

@@ -1,4 +1,4 @@
-use Rattle.pgraph.specs.Tables.{shape}
+use Rattle.charges.specs.pgraph.Tables.{shape}
 use Rattle.cert_check.proofs.NodeLemmas.{child_is}
 use Rattle.cert_check.proofs.nodes.child.Goals as goal
 

@@ -2,7 +2,8 @@ use Rattle.std.proofs.Common.{[], ℕ, List, ◌∙◌, sym, subst, refl, false,
 use Rattle.std.proofs.Common.{drop-cons, bytes_eq}
 use Rattle.std.proofs.lemmas.Bool.{both_ways, not-true, not-false}
 use Rattle.std.specs.Cmp.Lexicographic.{bytes_decides}
-use Rattle.cert_check.proofs.CertWalkLemmas.{Expects, expects_all, expected_between, ahead, too_many}
+use Rattle.cert_check.proofs.CertWalkLemmas.{Expects, expects_all, expected_between, ahead}
+use Rattle.cert_check.proofs.CertWalkLemmas.{too_many}
 use Rattle.cert_check.proofs.CertWalkLemmas.{another, the_same}
 use Rattle.cert_check.proofs.options.are_options.Goals as goal
 

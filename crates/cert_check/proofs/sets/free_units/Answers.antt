@@ -1,4 +1,4 @@
-use Rattle.pgraph.specs.Tables.{shape}
+use Rattle.charges.specs.pgraph.Tables.{shape}
 use Rattle.cert_check.proofs.SetLemmas.{free_among}
 use Rattle.cert_check.proofs.sets.free_units.Goals as goal
 

@@ -1,6 +1,6 @@
 use Rattle.std.proofs.Common.{ℕ, List, ◌≡◌, [], ◌∷◌, sym, ap, ◌∙◌}
 use Rattle.std.specs.Cmp.Lexicographic.{bytes_decides}
-use Rattle.number_sets.specs.Sets.{with_number}
+use Rattle.tree_text_rules.specs.number_sets.Sets.{with_number}
 use Rattle.cert_check.proofs.SetLemmas.{alone_is}
 use Rattle.cert_check.proofs.sets.is_alone.Goals as goal
 

@@ -1,4 +1,4 @@
-use Rattle.pgraph.specs.Tables.{shape}
+use Rattle.charges.specs.pgraph.Tables.{shape}
 use Rattle.cert_check.proofs.SetLemmas.{below_is}
 use Rattle.cert_check.proofs.sets.units_left.Goals as goal
 

@@ -1,7 +1,7 @@
 use Rattle.std.proofs.Common.{◌∙◌, ap, arith, ◌<◌, SFits, rules}
 use Rattle.std.specs.Int.{w64, w128}
 use Rattle.std.proofs.lemmas.Bool.{both_ways}
-use Rattle.pns_rules.specs.Shape.{Shape, shape_of}
+use Rattle.tree_text_rules.specs.pns_rules.Shape.{Shape, shape_of}
 use Rattle.cert_check.proofs.sizes.size_of_cap.Goals as goal
 
 pub returns-then-unit-unit_count-clause-none : goal.returns-then-unit-unit_count-clause-none

@@ -1,7 +1,7 @@
 use Rattle.std.proofs.Common.{false, refl}
 use Rattle.std.proofs.lemmas.Bool.{both_ways}
-use Rattle.pgraph.specs.Tables.{shape}
-use Rattle.pgraph.specs.View.{node_of}
+use Rattle.charges.specs.pgraph.Tables.{shape}
+use Rattle.charges.specs.pgraph.View.{node_of}
 use Rattle.cert_check.proofs.SetLemmas.{none_there}
 use Rattle.cert_check.proofs.StepLemmas.{loose_free, loose_known, others_known, loose_is}
 use Rattle.cert_check.proofs.steps.loose_is_possible.Goals as goal

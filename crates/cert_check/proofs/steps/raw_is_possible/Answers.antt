@@ -1,5 +1,5 @@
-use Rattle.pgraph.specs.Tables.{shape}
-use Rattle.pgraph.specs.View.{node_of}
+use Rattle.charges.specs.pgraph.Tables.{shape}
+use Rattle.charges.specs.pgraph.View.{node_of}
 use Rattle.cert_check.proofs.StepLemmas.{raw_is}
 use Rattle.cert_check.proofs.steps.raw_is_possible.Goals as goal
 

@@ -1,7 +1,7 @@
 use Rattle.std.proofs.Common.{◌≡◌, ◌≤◌, ◌<◌, ◌+◌, ◌-◌, ℕ, suc, length, drop, ap, ◌∙◌, subst, arith}
 use Rattle.std.proofs.lemmas.List.{length-set}
-use Rattle.tree_rules.specs.Tree as trees
-use Rattle.tree_rules.specs.Leaf.{Leaf}
+use Rattle.tree_text_rules.specs.tree_rules.Tree as trees
+use Rattle.tree_text_rules.specs.tree_rules.Leaf.{Leaf}
 use Rattle.cert_check.specs.Subtrees.{AreEnds}
 use Rattle.cert_check.proofs.EndLemmas.{ends_more, node_ahead}
 use Rattle.cert_check.proofs.subtrees.ends_of.Goals as goal

@@ -1,7 +1,7 @@
 use Rattle.std.proofs.Common.{◌-◌, ◌++◌, ◌∷◌, [], ℕ, List, drop, get_or, sym, ap, ◌∙◌, arith, inr}
 use Rattle.std.proofs.lemmas.List.{append-nil}
-use Rattle.tree_rules.specs.Tree as trees
-use Rattle.tree_rules.specs.Leaf.{Leaf}
+use Rattle.tree_text_rules.specs.tree_rules.Tree as trees
+use Rattle.tree_text_rules.specs.tree_rules.Leaf.{Leaf}
 use Rattle.cert_check.proofs.EndLemmas.{node_ahead, roots_step, roots_end}
 use Rattle.cert_check.proofs.subtrees.roots.Goals as goal
 

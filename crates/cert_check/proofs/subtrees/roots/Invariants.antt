@@ -1,5 +1,5 @@
 use Rattle.std.proofs.Common.{◌≡◌, ◌≤◌, ◌++◌, length, drop}
-use Rattle.tree_rules.specs.Tree as trees
+use Rattle.tree_text_rules.specs.tree_rules.Tree as trees
 use Rattle.cert_check.proofs.subtrees.roots.Given as goal
 
 abbrev pub invariant-over : goal.invariant-over

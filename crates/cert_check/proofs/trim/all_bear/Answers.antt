@@ -1,8 +1,8 @@
 use Rattle.std.proofs.Common.{◌≡◌, ◌<◌, ◌≤◌, ◌∙◌, ℕ, false, refl, ap, arith, length}
 use Rattle.std.proofs.lemmas.Bool.{both_ways}
-use Rattle.pgraph.specs.View.{node_of}
-use Rattle.pns_rules.specs.Shape.{Shape, shape_of}
-use Rattle.flow_rules.specs.Net.{net_of}
+use Rattle.charges.specs.pgraph.View.{node_of}
+use Rattle.tree_text_rules.specs.pns_rules.Shape.{Shape, shape_of}
+use Rattle.tree_text_rules.specs.flow_rules.Net.{net_of}
 use Rattle.charges.specs.Known.{facts_of}
 use Rattle.cert_check.specs.Trims.{Bears}
 use Rattle.cert_check.proofs.TrimLemmas.{one_more_bears}

@@ -1,6 +1,6 @@
 use Rattle.std.proofs.Common.{ℕ, ◌<◌}
-use Rattle.pgraph.specs.View.{node_of}
-use Rattle.flow_rules.specs.Net.{net_of}
+use Rattle.charges.specs.pgraph.View.{node_of}
+use Rattle.tree_text_rules.specs.flow_rules.Net.{net_of}
 use Rattle.charges.specs.Known.{facts_of}
 use Rattle.cert_check.specs.Trims.{Bears}
 use Rattle.cert_check.proofs.trim.all_bear.Given as goal

@@ -4,16 +4,16 @@ use Rattle.std.proofs.Common.{length}
 use Rattle.std.specs.Int.{w64, w128, int_max}
 use Rattle.std.proofs.lemmas.Bool.{both_ways}
 use Rattle.std.proofs.lemmas.Int.{to_z-of_z}
-use Rattle.integer_laws.specs.Total.{total}
-use Rattle.number_sets.specs.Sets.{has}
-use Rattle.problem_rules.specs.Problem.{Problem}
-use Rattle.pns_rules.specs.Shape.{Shape, shape_of}
-use Rattle.pgraph.specs.View.{node_of}
-use Rattle.flow_rules.specs.Net.{net_of, high_end}
-use Rattle.flow_rules.specs.Relaxed.{stays}
-use Rattle.flow_program.proofs.NodeSetLemmas.{listed_had}
+use Rattle.tree_text_rules.specs.integer_laws.Total.{total}
+use Rattle.tree_text_rules.specs.number_sets.Sets.{has}
+use Rattle.tree_text_rules.specs.problem_rules.Problem.{Problem}
+use Rattle.tree_text_rules.specs.pns_rules.Shape.{Shape, shape_of}
+use Rattle.charges.specs.pgraph.View.{node_of}
+use Rattle.tree_text_rules.specs.flow_rules.Net.{net_of, high_end}
+use Rattle.tree_text_rules.specs.flow_rules.Relaxed.{stays}
+use Rattle.charges.proofs.flow_program.Cited.{listed_had}
 use Rattle.charges.specs.Known.{facts_of}
-use Rattle.tree_rules.specs.Trim.{makers_most}
+use Rattle.tree_text_rules.specs.tree_rules.Trim.{makers_most}
 use Rattle.cert_check.proofs.TrimLemmas.{made_bears, none_bears, used_bears}
 use Rattle.cert_check.proofs.trim.bears.Goals as goal
 

@@ -1,7 +1,7 @@
 use Rattle.std.proofs.Common.{◌∙◌, ℤ, pos, ◌<ℤ◌, SFits, rules, sym, subst}
 use Rattle.std.specs.Int.{w64, w128}
 use Rattle.std.proofs.lemmas.Int.{to_z-of_z}
-use Rattle.flow_rules.specs.Charge.{rounded_up}
+use Rattle.tree_text_rules.specs.flow_rules.Charge.{rounded_up}
 use Rattle.cert_check.proofs.trim.enough_of.Goals as goal
 
 pub rounded_up-requires-clause-positive : goal.rounded_up-requires-clause-positive

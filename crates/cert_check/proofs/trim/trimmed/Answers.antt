@@ -4,13 +4,13 @@ use Rattle.std.proofs.Common.{length, map}
 use Rattle.std.specs.Int.{w64, w128}
 use Rattle.std.proofs.lemmas.Bool.{both_ways}
 use Rattle.std.proofs.lemmas.Int.{to_z-of_z}
-use Rattle.pns_rules.specs.Shape.{Shape, shape_of}
-use Rattle.pgraph.specs.View.{node_of}
+use Rattle.tree_text_rules.specs.pns_rules.Shape.{Shape, shape_of}
+use Rattle.charges.specs.pgraph.View.{node_of}
 use Rattle.cert_check.specs.Known.{KnowsInside}
-use Rattle.flow_rules.specs.Net.{net_of}
+use Rattle.tree_text_rules.specs.flow_rules.Net.{net_of}
 use Rattle.charges.specs.Known.{facts_of}
-use Rattle.tree_rules.specs.Trim.{MayTrim, enough_of, outputs}
-use Rattle.tree_rules.proofs.SumLemmas.{greatest_first}
+use Rattle.tree_text_rules.specs.tree_rules.Trim.{MayTrim, enough_of, outputs}
+use Rattle.tree_text_rules.proofs.tree_rules.Cited.{greatest_first}
 use Rattle.cert_check.proofs.TrimLemmas.{none_may}
 use Rattle.cert_check.proofs.trim.trimmed.Goals as goal
 

@@ -3,11 +3,11 @@ use Rattle.std.specs.Int.{w64, w128}
 use Rattle.std.specs.Prelude.{int_lt, pos}
 use Rattle.std.proofs.Math.Facts.{sfits_widen}
 use Rattle.std.proofs.lemmas.Int.{to_z-of_z}
-use Rattle.pns_rules.specs.Shape.{Shape}
-use Rattle.pgraph.specs.View.{node_of}
-use Rattle.flow_rules.specs.Net.{net_of}
+use Rattle.tree_text_rules.specs.pns_rules.Shape.{Shape}
+use Rattle.charges.specs.pgraph.View.{node_of}
+use Rattle.tree_text_rules.specs.flow_rules.Net.{net_of}
 use Rattle.charges.specs.Known.{facts_of}
-use Rattle.tree_rules.specs.Trim.{enough_of}
+use Rattle.tree_text_rules.specs.tree_rules.Trim.{enough_of}
 use Rattle.cert_check.proofs.TrimLemmas.{below, below_none, one_more}
 use Rattle.cert_check.proofs.trim.trimmed_size.Goals as goal
 

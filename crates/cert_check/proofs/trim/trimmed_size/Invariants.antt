@@ -1,9 +1,9 @@
 use Rattle.std.proofs.Common.{◌≡◌, pos}
 use Rattle.std.specs.Prelude.{int_lt}
-use Rattle.pgraph.specs.View.{node_of}
-use Rattle.flow_rules.specs.Net.{net_of}
+use Rattle.charges.specs.pgraph.View.{node_of}
+use Rattle.tree_text_rules.specs.flow_rules.Net.{net_of}
 use Rattle.charges.specs.Known.{facts_of}
-use Rattle.tree_rules.specs.Trim.{enough_of}
+use Rattle.tree_text_rules.specs.tree_rules.Trim.{enough_of}
 use Rattle.cert_check.proofs.TrimLemmas.{below}
 use Rattle.cert_check.proofs.trim.trimmed_size.Given as goal
 

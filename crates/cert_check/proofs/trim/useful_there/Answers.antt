@@ -1,10 +1,10 @@
 use Rattle.std.proofs.Common.{◌≡◌, ◌∙◌, ap, ◌+ℤ◌, SFits, rules}
 use Rattle.std.specs.Int.{w128}
 use Rattle.std.proofs.lemmas.Int.{to_z-of_z}
-use Rattle.problem_rules.specs.Problem.{Problem}
-use Rattle.pgraph.specs.View.{node_of}
-use Rattle.flow_rules.specs.Net.{net_of, low_end}
-use Rattle.flow_rules.specs.Charge.{at_most, users_most}
+use Rattle.tree_text_rules.specs.problem_rules.Problem.{Problem}
+use Rattle.charges.specs.pgraph.View.{node_of}
+use Rattle.tree_text_rules.specs.flow_rules.Net.{net_of, low_end}
+use Rattle.tree_text_rules.specs.flow_rules.Charge.{at_most, users_most}
 use Rattle.charges.specs.Known.{facts_of}
 use Rattle.cert_check.proofs.trim.useful_there.Goals as goal
 

@@ -5,10 +5,10 @@ use Rattle.std.specs.Prelude.{int_lt}
 use Rattle.std.specs.Int.{w64, w128, int_max}
 use Rattle.std.proofs.lemmas.Bool.{both_ways}
 use Rattle.std.proofs.lemmas.Int.{to_z-of_z}
-use Rattle.pgraph.specs.View.{node_of}
-use Rattle.flow_rules.specs.Net.{net_of}
+use Rattle.charges.specs.pgraph.View.{node_of}
+use Rattle.tree_text_rules.specs.flow_rules.Net.{net_of}
 use Rattle.charges.specs.Known.{facts_of}
-use Rattle.tree_rules.specs.Trim.{enough_of}
+use Rattle.tree_text_rules.specs.tree_rules.Trim.{enough_of}
 use Rattle.cert_check.proofs.TrimLemmas.{lt_true, lt_false}
 use Rattle.cert_check.proofs.trim.with_output.Goals as goal
 

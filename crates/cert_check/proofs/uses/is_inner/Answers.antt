@@ -1,9 +1,9 @@
 use Rattle.std.proofs.Common.{◌≡◌, ◌<◌, ◌≤◌, ◌∙◌, ℕ, true, false, sym, ap, arith}
-use Rattle.number_sets.specs.Sets.{listed}
-use Rattle.pns_rules.specs.Shape.{Shape, shape_of}
-use Rattle.pns_rules.specs.Structure.{mats}
-use Rattle.pgraph.specs.View.{node_of}
-use Rattle.flow_rules.specs.Relaxed.{stays}
+use Rattle.tree_text_rules.specs.number_sets.Sets.{listed}
+use Rattle.tree_text_rules.specs.pns_rules.Shape.{Shape, shape_of}
+use Rattle.tree_text_rules.specs.pns_rules.Structure.{mats}
+use Rattle.charges.specs.pgraph.View.{node_of}
+use Rattle.tree_text_rules.specs.flow_rules.Relaxed.{stays}
 use Rattle.cert_check.proofs.UseLemmas.{none_beyond, raw_is_not, row_is}
 use Rattle.cert_check.proofs.uses.is_inner.Goals as goal
 

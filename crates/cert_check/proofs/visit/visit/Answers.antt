@@ -1,10 +1,10 @@
 use Rattle.std.proofs.Common.{◌≡◌, ◌∙◌, ap, map, subst}
 use Rattle.std.proofs.lemmas.Result.{err_from_is_err_and}
-use Rattle.tree_rules.specs.Tree.{TreeNode, StepsPass, after_all}
-use Rattle.tree_rules.specs.Leaf.{Leaf}
+use Rattle.tree_text_rules.specs.tree_rules.Tree.{TreeNode, StepsPass, after_all}
+use Rattle.tree_text_rules.specs.tree_rules.Leaf.{Leaf}
 use Rattle.branch_tree.specs.View.{end_of}
-use Rattle.pns_rules.specs.Shape.{Shape, shape_of}
-use Rattle.pgraph.specs.View.{node_of, step_of}
+use Rattle.tree_text_rules.specs.pns_rules.Shape.{Shape, shape_of}
+use Rattle.charges.specs.pgraph.View.{node_of, step_of}
 use Rattle.cert_check.specs.Subtrees.{rest_of, stack_of}
 use Rattle.cert_check.specs.Visits.{leaf_passes, leaf_fails}
 use Rattle.cert_check.proofs.LeafLemmas.{reached, node_visited, node_halts}

@@ -1,5 +1,5 @@
-use Rattle.number_sets.specs.Sets.{has}
-use Rattle.pgraph.specs.Tables.{shape}
+use Rattle.tree_text_rules.specs.number_sets.Sets.{has}
+use Rattle.charges.specs.pgraph.Tables.{shape}
 use Rattle.cert_check.proofs.StepLemmas.{needed_known}
 use Rattle.cert_check.proofs.visit.visit_branch.Goals as goal
 

@@ -1,9 +1,9 @@
 use Rattle.std.proofs.Common.{[], ◌∷◌, List, ap, ◌∙◌}
-use Rattle.pns_rules.specs.Nodes as rules
-use Rattle.tree_rules.specs.Ways.{either, child_at}
-use Rattle.unit_sets.specs.declared.node.Node.{Node}
-use Rattle.pgraph.specs.Tables.{shape}
-use Rattle.pgraph.specs.View.{node_of}
+use Rattle.tree_text_rules.specs.pns_rules.Nodes as rules
+use Rattle.tree_text_rules.specs.tree_rules.Ways.{either, child_at}
+use Rattle.charges.specs.unit_sets.declared.node.Node.{Node}
+use Rattle.charges.specs.pgraph.Tables.{shape}
+use Rattle.charges.specs.pgraph.View.{node_of}
 use Rattle.cert_check.specs.Subtrees.{stack_of}
 use Rattle.cert_check.proofs.TurnLemmas.{stack_top}
 use Rattle.cert_check.proofs.visit.visit_either.Goals as goal

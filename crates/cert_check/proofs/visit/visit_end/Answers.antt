@@ -1,9 +1,9 @@
 use Rattle.std.proofs.Common.{◌≡◌, ◌++◌, OnOk, IfErr, rules, ap, sym, subst}
-use Rattle.tree_rules.specs.Tree.{End, below, EndPasses}
-use Rattle.tree_rules.specs.Fault.{EndFails}
-use Rattle.tree_rules.specs.Leaf.{Leaf}
-use Rattle.pns_rules.specs.Shape.{Shape, shape_of}
-use Rattle.pgraph.specs.View.{node_of}
+use Rattle.tree_text_rules.specs.tree_rules.Tree.{End, below, EndPasses}
+use Rattle.tree_text_rules.specs.tree_rules.Fault.{EndFails}
+use Rattle.tree_text_rules.specs.tree_rules.Leaf.{Leaf}
+use Rattle.tree_text_rules.specs.pns_rules.Shape.{Shape, shape_of}
+use Rattle.charges.specs.pgraph.View.{node_of}
 use Rattle.branch_tree.specs.View.{end_of}
 use Rattle.cert_check.specs.Subtrees.{rest_of, stack_of}
 use Rattle.cert_check.specs.Visits.{leaf_passes, leaf_fails, Halts}

@@ -1,10 +1,10 @@
 use Rattle.std.proofs.Common.{◌∷◌, ◌++◌, [], ℕ, List, ap, ap₂, ◌∙◌, sym, subst}
-use Rattle.pns_rules.specs.Nodes as nodes
-use Rattle.tree_rules.specs.Tree.{End, TreeNode}
-use Rattle.tree_rules.specs.Leaf.{Leaf}
+use Rattle.tree_text_rules.specs.pns_rules.Nodes as nodes
+use Rattle.tree_text_rules.specs.tree_rules.Tree.{End, TreeNode}
+use Rattle.tree_text_rules.specs.tree_rules.Leaf.{Leaf}
 use Rattle.tree_text_rules.specs.OpenLeaves.{open_here}
-use Rattle.pns_rules.specs.Shape.{shape_of}
-use Rattle.pgraph.specs.View.{node_of}
+use Rattle.tree_text_rules.specs.pns_rules.Shape.{shape_of}
+use Rattle.charges.specs.pgraph.View.{node_of}
 use Rattle.cert_check.specs.declared.walk.Stop.{Stop}
 use Rattle.cert_check.specs.Subtrees.{stack_of}
 use Rattle.cert_check.specs.OpenLeaves.{leaves_at, AreBefore}

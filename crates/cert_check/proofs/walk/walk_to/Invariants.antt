@@ -1,6 +1,6 @@
 use Rattle.std.proofs.Common.{◌≡◌, ◌∷◌, [], length}
-use Rattle.pns_rules.specs.Shape.{shape_of}
-use Rattle.pgraph.specs.View.{node_of}
+use Rattle.tree_text_rules.specs.pns_rules.Shape.{shape_of}
+use Rattle.charges.specs.pgraph.View.{node_of}
 use Rattle.cert_check.specs.Subtrees.{stack_of, AreEnds}
 use Rattle.cert_check.specs.OpenLeaves.{leaves_at}
 use Rattle.cert_check.specs.Visits.{leaf_passes, leaf_fails}

@@ -1,8 +1,8 @@
 use Rattle.std.proofs.Common.{◌≡◌, Some, ◌*ℤ◌, refl, sym, ap}
-use Rattle.number_sets.specs.Sets.{has}
-use Rattle.pgraph.specs.View.{node_of}
-use Rattle.tree_rules.specs.Leaf.{IsBounded}
-use Rattle.exact_numbers.specs.Number.{numerator, denominator}
+use Rattle.scaled_flows.specs.number_sets.Sets.{has}
+use Rattle.scaled_flows.specs.pgraph.View.{node_of}
+use Rattle.scaled_flows.specs.tree_rules.Leaf.{IsBounded}
+use Rattle.scaled_flows.specs.exact_numbers.Number.{numerator, denominator}
 use Rattle.certified_bounds.specs.Certified.{cost_over, IsNetworkAt}
 use Rattle.certified_bounds.proofs.FractionLemmas.{no_more_of_same}
 use Rattle.certified_bounds.proofs.flows.flows.Goals as goal

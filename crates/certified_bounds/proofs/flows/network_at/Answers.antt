@@ -3,9 +3,9 @@ use Rattle.std.proofs.Common.{ap, subst, rules, SFits}
 use Rattle.std.specs.Int.{w128}
 use Rattle.std.proofs.lemmas.Int.{to_z-of_z}
 use Rattle.std.specs.Ordering.{int_cmp, is_eq}
-use Rattle.exact_numbers.specs.Number.{numerator, denominator}
-use Rattle.exact_numbers.proofs.RangeLemmas.{fits_from_range}
-use Rattle.tree_rules.specs.Claim.{Network, IsFeasible}
+use Rattle.scaled_flows.specs.exact_numbers.Number.{numerator, denominator}
+use Rattle.scaled_flows.proofs.exact_numbers.Cited.{fits_from_range}
+use Rattle.scaled_flows.specs.tree_rules.Claim.{Network, IsFeasible}
 use Rattle.certified_bounds.specs.Certified.{IsNetworkAt}
 use Rattle.certified_bounds.proofs.FractionLemmas.{equal_from}
 use Rattle.certified_bounds.proofs.BoundLemmas.{network_of, same_cost}

@@ -1,13 +1,13 @@
 use Rattle.std.proofs.Common.{◌≡◌, pos, sym, ◌∙◌, subst, rules, SFits}
 use Rattle.std.specs.Int.{w128}
 use Rattle.std.proofs.lemmas.Int.{to_z-of_z}
-use Rattle.number_sets.specs.Sets.{has}
-use Rattle.integer_laws.specs.Range.{InRange}
-use Rattle.exact_numbers.proofs.RangeLemmas.{fits_from_range}
-use Rattle.flow_rules.specs.Net.{net_of, beside}
-use Rattle.flow_rules.specs.Flows.{cost}
-use Rattle.flow_rules.specs.Steps.{AreInRange}
-use Rattle.flow_rules.specs.CostSteps.{cost_steps}
+use Rattle.scaled_flows.specs.number_sets.Sets.{has}
+use Rattle.scaled_flows.specs.integer_laws.Range.{InRange}
+use Rattle.scaled_flows.proofs.exact_numbers.Cited.{fits_from_range}
+use Rattle.scaled_flows.specs.flow_rules.Net.{net_of, beside}
+use Rattle.scaled_flows.specs.flow_rules.Flows.{cost}
+use Rattle.scaled_flows.specs.flow_rules.Steps.{AreInRange}
+use Rattle.scaled_flows.specs.flow_rules.CostSteps.{cost_steps}
 use Rattle.certified_bounds.proofs.BoundLemmas.{last_in_range}
 use Rattle.certified_bounds.proofs.judged.cost_of_network.Goals as goal
 

@@ -1,11 +1,11 @@
 use Rattle.std.proofs.Common.{◌≡◌, length, arith, pos, subst}
-use Rattle.problem_rules.specs.Problem.{Problem}
-use Rattle.pgraph.specs.View.{node_of}
-use Rattle.flow_rules.specs.Net.{net_of}
-use Rattle.flow_rules.specs.Relaxed.{rows, Refutes}
-use Rattle.flow_rules.specs.Steps.{AreInRange}
-use Rattle.flow_rules.specs.BoundSteps.{bound_steps}
-use Rattle.tree_rules.specs.Leaf.{multiplier}
+use Rattle.scaled_flows.specs.problem_rules.Problem.{Problem}
+use Rattle.scaled_flows.specs.pgraph.View.{node_of}
+use Rattle.scaled_flows.specs.flow_rules.Net.{net_of}
+use Rattle.scaled_flows.specs.flow_rules.Relaxed.{rows, Refutes}
+use Rattle.scaled_flows.specs.flow_rules.Steps.{AreInRange}
+use Rattle.scaled_flows.specs.flow_rules.BoundSteps.{bound_steps}
+use Rattle.scaled_flows.specs.tree_rules.Leaf.{multiplier}
 use Rattle.certified_bounds.proofs.judged.is_refuted.Goals as goal
 
 pub refutes-requires-clause-multipliers : goal.refutes-requires-clause-multipliers

@@ -1,16 +1,16 @@
 use Rattle.std.proofs.Common.{◌≡◌, length, arith, sym, ◌∙◌, subst, pos, ◌≤ℤ◌, rules, SFits}
 use Rattle.std.specs.Int.{w128}
 use Rattle.std.proofs.lemmas.Int.{ints, to_z-of_z}
-use Rattle.exact_numbers.specs.Number.{numerator, denominator}
-use Rattle.integer_laws.specs.Range.{InRange}
-use Rattle.problem_rules.specs.Problem.{Problem}
-use Rattle.exact_numbers.proofs.RangeLemmas.{fits_from_range}
-use Rattle.pgraph.specs.View.{node_of}
-use Rattle.flow_rules.specs.Net.{net_of}
-use Rattle.flow_rules.specs.Relaxed.{rows, bound}
-use Rattle.flow_rules.specs.Steps.{AreInRange}
-use Rattle.flow_rules.specs.BoundSteps.{bound_steps}
-use Rattle.tree_rules.specs.Leaf.{multiplier}
+use Rattle.scaled_flows.specs.exact_numbers.Number.{numerator, denominator}
+use Rattle.scaled_flows.specs.integer_laws.Range.{InRange}
+use Rattle.scaled_flows.specs.problem_rules.Problem.{Problem}
+use Rattle.scaled_flows.proofs.exact_numbers.Cited.{fits_from_range}
+use Rattle.scaled_flows.specs.pgraph.View.{node_of}
+use Rattle.scaled_flows.specs.flow_rules.Net.{net_of}
+use Rattle.scaled_flows.specs.flow_rules.Relaxed.{rows, bound}
+use Rattle.scaled_flows.specs.flow_rules.Steps.{AreInRange}
+use Rattle.scaled_flows.specs.flow_rules.BoundSteps.{bound_steps}
+use Rattle.scaled_flows.specs.tree_rules.Leaf.{multiplier}
 use Rattle.certified_bounds.proofs.BoundLemmas.{last_in_range, bounded_is}
 use Rattle.certified_bounds.proofs.judged.low_of.Goals as goal
 

@@ -1,9 +1,9 @@
 use Rattle.std.proofs.Common.{refl, sym, ◌∙◌, Some, ◌*ℤ◌}
 use Rattle.std.specs.Ordering.{int_cmp}
 use Rattle.std.proofs.lemmas.Int.{to_z-of_z}
-use Rattle.pgraph.specs.View.{node_of}
-use Rattle.tree_rules.specs.Leaf.{IsBounded}
-use Rattle.exact_numbers.specs.Number.{numerator, denominator}
+use Rattle.scaled_flows.specs.pgraph.View.{node_of}
+use Rattle.scaled_flows.specs.tree_rules.Leaf.{IsBounded}
+use Rattle.scaled_flows.specs.exact_numbers.Number.{numerator, denominator}
 use Rattle.certified_bounds.specs.Certified.{cost_over}
 use Rattle.certified_bounds.proofs.FractionLemmas.{over_one, le_from}
 use Rattle.certified_bounds.proofs.BoundLemmas.{reaches_less}

@@ -1,9 +1,9 @@
 use Rattle.std.proofs.Common.{◌∙◌, ℕ, List, length, ap}
-use Rattle.number_sets.specs.Sets.{listed}
-use Rattle.pns_rules.specs.Shape.{Shape}
-use Rattle.pns_rules.specs.Structure.{mats}
-use Rattle.pgraph.specs.View.{node_of}
-use Rattle.flow_rules.specs.Relaxed.{stays}
+use Rattle.scaled_flows.specs.number_sets.Sets.{listed}
+use Rattle.scaled_flows.specs.pns_rules.Shape.{Shape}
+use Rattle.scaled_flows.specs.pns_rules.Structure.{mats}
+use Rattle.scaled_flows.specs.pgraph.View.{node_of}
+use Rattle.scaled_flows.specs.flow_rules.Relaxed.{stays}
 use Rattle.certified_bounds.proofs.judged.row_count.Goals as goal
 
 pub returns : goal.returns

@@ -1,6 +1,6 @@
 use Rattle.std.proofs.Common.{◌≡◌, Some, sym, subst}
-use Rattle.pgraph.specs.View.{node_of}
-use Rattle.tree_rules.specs.Leaf.{IsBounded}
+use Rattle.scaled_flows.specs.pgraph.View.{node_of}
+use Rattle.scaled_flows.specs.tree_rules.Leaf.{IsBounded}
 use Rattle.certified_bounds.specs.Certified.{cost_over, IsLowBound}
 use Rattle.certified_bounds.proofs.FractionLemmas.{over_one}
 use Rattle.certified_bounds.proofs.BoundLemmas.{bounded_under}

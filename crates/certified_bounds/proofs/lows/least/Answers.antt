@@ -1,7 +1,7 @@
 use Rattle.std.proofs.Common.{◌≡◌, Some, refl, sym, subst}
-use Rattle.pgraph.specs.View.{node_of}
-use Rattle.tree_rules.specs.Leaf.{IsBounded}
-use Rattle.exact_numbers.specs.Number.{numerator, denominator}
+use Rattle.scaled_flows.specs.pgraph.View.{node_of}
+use Rattle.scaled_flows.specs.tree_rules.Leaf.{IsBounded}
+use Rattle.scaled_flows.specs.exact_numbers.Number.{numerator, denominator}
 use Rattle.certified_bounds.specs.Certified.{cost_over, IsLeastBound}
 use Rattle.certified_bounds.proofs.FractionLemmas.{over_one}
 use Rattle.certified_bounds.proofs.BoundLemmas.{no_more_than_least}

@@ -2,7 +2,7 @@ use Rattle.std.proofs.Common.{SFits, rules}
 use Rattle.std.proofs.lemmas.Int.{to_z-of_z}
 use Rattle.std.proofs.lemmas.List.Elements.{All-set}
 use Rattle.std.specs.Int.{w128}
-use Rattle.integer_laws.specs.Range.{InRange}
+use Rattle.scaled_flows.specs.integer_laws.Range.{InRange}
 use Rattle.certified_bounds.proofs.number_list.shorten_all.Goals as goal
 
 pub all-preserved : goal.all-preserved

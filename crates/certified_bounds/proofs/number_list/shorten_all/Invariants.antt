@@ -1,4 +1,4 @@
-use Rattle.integer_laws.specs.Range.{AllInRange}
+use Rattle.scaled_flows.specs.integer_laws.Range.{AllInRange}
 use Rattle.certified_bounds.proofs.number_list.shorten_all.Given as goal
 
 abbrev pub invariant-all : goal.invariant-all

@@ -2,8 +2,8 @@ use Rattle.std.proofs.Common.{◌≡◌, ℕ, arith, ap, refl, not, ◌==◌, Li
 use Rattle.std.proofs.Common.{get_or}
 use Rattle.std.specs.Int.{w128}
 use Rattle.std.proofs.lemmas.Int.{to_z-of_z}
-use Rattle.number_sets.specs.Sets.{kept}
-use Rattle.number_sets.proofs.SetLemmas.{length_below}
+use Rattle.structure_list.specs.number_sets.Sets.{kept}
+use Rattle.structure_list.proofs.number_sets.Cited.{length_below}
 use Rattle.flow_program.specs.Entry.{entry}
 use Rattle.charges.specs.Bends.{as_owed, knee_at}
 use Rattle.charges.proofs.KneeLemmas.{first_counts}

@@ -1,8 +1,8 @@
 use Rattle.std.proofs.Common.{◌≡◌, ℕ, ◌+◌, ◌-◌, arith, rules, SFits, ℤ, ◌+ℤ◌, ◌-ℤ◌, ◌*ℤ◌}
 use Rattle.std.specs.Int.{w128}
 use Rattle.std.proofs.lemmas.Int.{to_z-of_z}
-use Rattle.integer_laws.specs.Range.{InRange}
-use Rattle.flow_rules.specs.Steps.{IsFirstPast}
+use Rattle.structure_list.specs.integer_laws.Range.{InRange}
+use Rattle.structure_list.specs.flow_rules.Steps.{IsFirstPast}
 use Rattle.charges.specs.Bends.{three_steps}
 use Rattle.charges.proofs.bending.with_knee.Goals as goal
 

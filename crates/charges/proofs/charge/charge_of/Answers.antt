@@ -2,21 +2,21 @@ use Rattle.std.proofs.Common.{◌≡◌, ◌<◌, ◌∙◌, refl, sym, ap, subs
 use Rattle.std.proofs.Common.{true, pos}
 use Rattle.std.specs.Int.{w128}
 use Rattle.std.proofs.lemmas.Int.{to_z-of_z}
-use Rattle.integer_laws.specs.Total.{total}
-use Rattle.number_sets.specs.Sets.{has, listed}
-use Rattle.problem_rules.specs.Problem.{Problem}
-use Rattle.pns_rules.specs.Shape.{Shape, shape_of}
-use Rattle.pns_rules.specs.Structure.{mats}
-use Rattle.pgraph.specs.View.{node_of}
-use Rattle.flow_rules.specs.Net.{net_of, beside}
-use Rattle.flow_rules.specs.Relaxed.{stays, units, rows, row_part}
-use Rattle.flow_rules.specs.Steps.{AreInRange, IsFirstPast}
-use Rattle.flow_rules.specs.BoundSteps.{rows_steps}
+use Rattle.structure_list.specs.integer_laws.Total.{total}
+use Rattle.structure_list.specs.number_sets.Sets.{has, listed}
+use Rattle.structure_list.specs.problem_rules.Problem.{Problem}
+use Rattle.structure_list.specs.pns_rules.Shape.{Shape, shape_of}
+use Rattle.structure_list.specs.pns_rules.Structure.{mats}
+use Rattle.structure_list.specs.pgraph.View.{node_of}
+use Rattle.structure_list.specs.flow_rules.Net.{net_of, beside}
+use Rattle.structure_list.specs.flow_rules.Relaxed.{stays, units, rows, row_part}
+use Rattle.structure_list.specs.flow_rules.Steps.{AreInRange, IsFirstPast}
+use Rattle.structure_list.specs.flow_rules.BoundSteps.{rows_steps}
 use Rattle.flow_program.specs.Entry.{entry}
 use Rattle.flow_program.specs.NodeSets.{AreNeeded, AreSetsOf}
-use Rattle.flow_program.proofs.NodeSetLemmas.{listed_had}
+use Rattle.flow_program.proofs.Cited.{listed_had}
 use Rattle.charges.specs.Known.{asked_of, facts_of}
-use Rattle.pgraph.specs.CoversView.{covers_of}
+use Rattle.structure_list.specs.pgraph.CoversView.{covers_of}
 use Rattle.charges.proofs.SumLemmas.{past_in_rows, past_in_worth, past_in_weights, past_in_paid}
 use Rattle.charges.proofs.SumLemmas.{past_in_units, all_fit, charge_is}
 use Rattle.charges.proofs.charge.charge_of.Goals as goal

@@ -2,19 +2,18 @@ use Rattle.std.proofs.Common.{◌≡◌, ◌+◌, ◌-◌, ◌<◌, ◌*ℤ◌, 
 use Rattle.std.proofs.Common.{pos, to_z, ℕ, List, length, arith}
 use Rattle.std.specs.Int.{w128}
 use Rattle.std.proofs.lemmas.Int.{to_z-of_z}
-use Rattle.number_sets.specs.Sets.{has, IsSet, IsWithin}
-use Rattle.number_sets.proofs.SetLemmas.{length_below}
-use Rattle.problem_rules.specs.Problem.{Problem}
-use Rattle.problem_rules.specs.WellFormed.{IsWellFormed}
-use Rattle.problem_rules.proofs.ValidLemmas.{well_formed_from_valid}
-use Rattle.pns_rules.specs.Shape.{shape_of}
-use Rattle.pgraph.specs.View.{node_of}
-use Rattle.flow_rules.specs.Net.{net_of, trillion, size_cost}
-use Rattle.flow_rules.specs.Relaxed.{stays}
+use Rattle.structure_list.specs.number_sets.Sets.{has, IsSet, IsWithin}
+use Rattle.structure_list.proofs.number_sets.Cited.{length_below}
+use Rattle.structure_list.specs.problem_rules.Problem.{Problem}
+use Rattle.structure_list.specs.problem_rules.WellFormed.{IsWellFormed}
+use Rattle.structure_list.proofs.problem_rules.Cited.{well_formed_from_valid}
+use Rattle.structure_list.specs.pns_rules.Shape.{shape_of}
+use Rattle.structure_list.specs.pgraph.View.{node_of}
+use Rattle.structure_list.specs.flow_rules.Net.{net_of, trillion, size_cost}
+use Rattle.structure_list.specs.flow_rules.Relaxed.{stays}
 use Rattle.flow_program.specs.Entry.{entry}
 use Rattle.flow_program.specs.Rates.{AreRates}
-use Rattle.flow_program.proofs.NodeSetLemmas.{listed_had}
-use Rattle.flow_program.proofs.WalkLemmas.{next_of, IsNext, has_next, rest_within}
+use Rattle.flow_program.proofs.Cited.{listed_had, next_of, IsNext, has_next, rest_within}
 use Rattle.charges.specs.declared.unit.Terms.{Terms}
 use Rattle.charges.specs.Known.{facts_of}
 use Rattle.charges.specs.Bends.{knees_in}

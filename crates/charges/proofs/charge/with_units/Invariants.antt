@@ -1,9 +1,9 @@
 use Rattle.std.proofs.Common.{◌+◌, ◌*◌, ◌≤◌, List, length}
-use Rattle.number_sets.specs.Sets.{has, IsSet, IsWithin}
-use Rattle.pgraph.specs.View.{node_of}
-use Rattle.flow_rules.specs.Net.{net_of}
+use Rattle.structure_list.specs.number_sets.Sets.{has, IsSet, IsWithin}
+use Rattle.structure_list.specs.pgraph.View.{node_of}
+use Rattle.structure_list.specs.flow_rules.Net.{net_of}
 use Rattle.flow_program.specs.Entry.{entry}
-use Rattle.flow_rules.specs.Cover.{Cover}
+use Rattle.structure_list.specs.flow_rules.Cover.{Cover}
 use Rattle.charges.specs.Known.{facts_of}
 use Rattle.charges.specs.Ground.{ArePaid}
 use Rattle.charges.proofs.GroundLemmas.{IsChargeSum}

@@ -1,8 +1,8 @@
 use Rattle.std.proofs.Common.{refl, ap, ◌∙◌, ℕ, ◌≡◌, length}
 use Rattle.std.specs.Prelude.{nat_lt}
-use Rattle.number_sets.specs.Sets.{has}
-use Rattle.pgraph.specs.Tables.{shape}
-use Rattle.pgraph.specs.View.{node_of}
+use Rattle.structure_list.specs.number_sets.Sets.{has}
+use Rattle.structure_list.specs.pgraph.Tables.{shape}
+use Rattle.structure_list.specs.pgraph.View.{node_of}
 use Rattle.charges.proofs.FreeLemmas.{has_free, free_had}
 use Rattle.charges.proofs.cover.are_free.Goals as goal
 

@@ -1,9 +1,9 @@
 use Rattle.std.proofs.Common.{ap, ◌∙◌, ℕ, List}
-use Rattle.number_sets.specs.Sets.{has}
-use Rattle.number_sets.proofs.SetLemmas.{has-union}
-use Rattle.pgraph.specs.Tables.{shape}
-use Rattle.pgraph.specs.View.{node_of}
-use Rattle.pgraph.specs.CoversView.{cover_of}
+use Rattle.structure_list.specs.number_sets.Sets.{has}
+use Rattle.structure_list.proofs.number_sets.Cited.{has-union}
+use Rattle.structure_list.specs.pgraph.Tables.{shape}
+use Rattle.structure_list.specs.pgraph.View.{node_of}
+use Rattle.structure_list.specs.pgraph.CoversView.{cover_of}
 use Rattle.charges.proofs.CoverLemmas.{covers_then, covers_none}
 use Rattle.charges.proofs.cover.covers_node.Goals as goal
 

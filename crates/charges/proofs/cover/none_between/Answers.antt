@@ -1,8 +1,8 @@
 use Rattle.std.proofs.Common.{◌≡◌, true, false, Bool, refl}
 use Rattle.std.specs.Prelude.{not}
 use Rattle.std.proofs.lemmas.Bool.{both_ways}
-use Rattle.pgraph.specs.Tables.{shape}
-use Rattle.pns_rules.specs.Structure.{mats}
+use Rattle.structure_list.specs.pgraph.Tables.{shape}
+use Rattle.structure_list.specs.pns_rules.Structure.{mats}
 use Rattle.charges.proofs.cover.none_between.Goals as goal
 
 clash : (b : Bool) → not b ≡ true → b ≡ true → ⊥

@@ -1,6 +1,6 @@
 use Rattle.std.proofs.Common.{refl, ap, ◌∙◌, ℕ, List}
-use Rattle.number_sets.specs.Sets.{has}
-use Rattle.number_sets.proofs.SetLemmas.{has-with_number}
+use Rattle.structure_list.specs.number_sets.Sets.{has}
+use Rattle.structure_list.proofs.number_sets.Cited.{has-with_number}
 use Rattle.charges.proofs.cover.with_beside.Goals as goal
 
 pub returns-in-Some : goal.returns-in-Some

@@ -1,5 +1,5 @@
 use Rattle.std.proofs.Common.{◌≡◌, ◌<◌}
-use Rattle.number_sets.specs.Sets.{IsSet}
+use Rattle.structure_list.specs.number_sets.Sets.{IsSet}
 use Rattle.flow_program.specs.Entry.{entry}
 use Rattle.charges.specs.Firsts.{least_from}
 use Rattle.charges.proofs.knees.first_knee.Given as goal

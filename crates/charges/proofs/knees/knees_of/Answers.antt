@@ -2,10 +2,10 @@ use Rattle.std.proofs.Common.{◌∙◌, sym, ap, subst, SFits, rules, get_or, p
 use Rattle.std.specs.Prelude.{◌&&◌, int_lt}
 use Rattle.std.specs.Int.{w64, w128}
 use Rattle.std.proofs.lemmas.Int.{to_z-of_z}
-use Rattle.number_sets.specs.Sets.{has, IsSet}
-use Rattle.number_sets.proofs.SetLemmas.{has-meet}
+use Rattle.structure_list.specs.number_sets.Sets.{has, IsSet}
+use Rattle.structure_list.proofs.number_sets.Cited.{has-meet}
 use Rattle.flow_program.specs.Entry.{entry}
-use Rattle.flow_program.proofs.WalkLemmas.{next_of, has_next}
+use Rattle.flow_program.proofs.Cited.{next_of, has_next}
 use Rattle.charges.proofs.KneeLemmas.{lt_from}
 use Rattle.charges.proofs.PayingLemmas.{kneed_begins, kneed_more, kneed_ends, pays_rate}
 use Rattle.charges.proofs.knees.knees_of.Goals as goal

@@ -1,4 +1,4 @@
-use Rattle.number_sets.specs.Sets.{IsSet}
+use Rattle.structure_list.specs.number_sets.Sets.{IsSet}
 use Rattle.flow_program.specs.Entry.{entry}
 use Rattle.charges.proofs.PayingLemmas.{IsKneedSoFar}
 use Rattle.charges.proofs.knees.knees_of.Given as goal

@@ -2,9 +2,9 @@ use Rattle.std.proofs.Common.{sym, subst, SFits, rules, get_or, pos}
 use Rattle.std.specs.Prelude.{◌&&◌, int_lt}
 use Rattle.std.specs.Int.{w64, w128}
 use Rattle.std.proofs.lemmas.Int.{to_z-of_z}
-use Rattle.number_sets.specs.Sets.{IsSet}
+use Rattle.structure_list.specs.number_sets.Sets.{IsSet}
 use Rattle.flow_program.specs.Entry.{entry}
-use Rattle.flow_program.proofs.WalkLemmas.{next_of}
+use Rattle.flow_program.proofs.Cited.{next_of}
 use Rattle.charges.proofs.PayingLemmas.{found_begins, found_more, found_ends}
 use Rattle.charges.proofs.knees.paying.Goals as goal
 

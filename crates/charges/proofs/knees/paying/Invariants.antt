@@ -1,6 +1,6 @@
 use Rattle.std.proofs.Common.{pos}
 use Rattle.std.specs.Prelude.{◌&&◌, int_lt}
-use Rattle.number_sets.specs.Sets.{IsSet}
+use Rattle.structure_list.specs.number_sets.Sets.{IsSet}
 use Rattle.flow_program.specs.Entry.{entry}
 use Rattle.charges.proofs.PayingLemmas.{IsFoundSoFar}
 use Rattle.charges.proofs.knees.paying.Given as goal

@@ -1,7 +1,7 @@
 use Rattle.std.proofs.Common.{◌≡◌, ◌==◌, ◌∙◌, Bool, true, false, refl, sym, ap, subst, List, ℕ}
 use Rattle.std.specs.Prelude.{◌&&◌, ◌||◌}
-use Rattle.number_sets.specs.Sets.{has}
-use Rattle.number_sets.proofs.SetLemmas.{has-with_number}
+use Rattle.structure_list.specs.number_sets.Sets.{has}
+use Rattle.structure_list.proofs.number_sets.Cited.{has-with_number}
 use Rattle.charges.proofs.knees.with_where.Goals as goal
 
 swapped : (a b : Bool) → (a || b) ≡ (b || a)

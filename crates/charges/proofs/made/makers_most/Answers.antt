@@ -1,10 +1,9 @@
 use Rattle.std.proofs.Common.{sym, subst, SFits, rules, to_z, arith, pos, ◌+ℤ◌, ◌*ℤ◌}
 use Rattle.std.specs.Int.{int_max, w128}
 use Rattle.std.proofs.lemmas.Int.{to_z-of_z}
-use Rattle.number_sets.specs.Sets.{IsSet}
-use Rattle.flow_rules.specs.Net.{net_of}
-use Rattle.flow_program.proofs.SizeLemmas.{fits_small, size_add}
-use Rattle.flow_program.proofs.WalkLemmas.{next_of, IsNext, has_next}
+use Rattle.structure_list.specs.number_sets.Sets.{IsSet}
+use Rattle.structure_list.specs.flow_rules.Net.{net_of}
+use Rattle.flow_program.proofs.Cited.{fits_small, size_add, next_of, IsNext, has_next}
 use Rattle.charges.specs.Known.{facts_of}
 use Rattle.charges.proofs.UseLemmas.{use_begins, use_small, use_more, use_ends}
 use Rattle.charges.proofs.made.makers_most.Goals as goal

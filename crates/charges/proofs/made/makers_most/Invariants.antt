@@ -1,7 +1,7 @@
 use Rattle.std.proofs.Common.{◌*ℤ◌, pos}
 use Rattle.std.specs.Int.{int_max}
-use Rattle.number_sets.specs.Sets.{IsSet}
-use Rattle.flow_rules.specs.Net.{net_of}
+use Rattle.structure_list.specs.number_sets.Sets.{IsSet}
+use Rattle.structure_list.specs.flow_rules.Net.{net_of}
 use Rattle.charges.specs.Known.{facts_of}
 use Rattle.charges.proofs.UseLemmas.{IsUseSum}
 use Rattle.charges.proofs.made.makers_most.Given as goal

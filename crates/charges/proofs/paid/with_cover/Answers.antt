@@ -2,10 +2,10 @@ use Rattle.std.proofs.Common.{◌∙◌, ◌<◌, ◌+ℤ◌, ap, refl, SFits, r
 use Rattle.std.proofs.Common.{cond, Bool}
 use Rattle.std.specs.Int.{w128}
 use Rattle.std.proofs.lemmas.Int.{to_z-of_z}
-use Rattle.flow_rules.proofs.LeadingLemmas.{IsFirstPast-left}
+use Rattle.structure_list.proofs.flow_rules.Cited.{IsFirstPast-left}
 use Rattle.flow_program.specs.Entry.{entry}
-use Rattle.flow_rules.specs.ChargeSteps.{beside_steps}
-use Rattle.pgraph.specs.CoversView.{cover_of}
+use Rattle.structure_list.specs.flow_rules.ChargeSteps.{beside_steps}
+use Rattle.structure_list.specs.pgraph.CoversView.{cover_of}
 use Rattle.charges.proofs.PaidLemmas.{beside_past, beside_fit, beside_value}
 use Rattle.charges.proofs.paid.with_cover.Goals as goal
 

@@ -1,9 +1,9 @@
 use Rattle.std.proofs.Common.{refl, SFits, rules, get_or, pos, arith}
 use Rattle.std.specs.Int.{w128}
 use Rattle.std.proofs.lemmas.Int.{to_z-of_z}
-use Rattle.number_sets.proofs.SetLemmas.{length_below}
+use Rattle.structure_list.proofs.number_sets.Cited.{length_below}
 use Rattle.flow_program.specs.Entry.{entry}
-use Rattle.flow_program.proofs.WalkLemmas.{next_of}
+use Rattle.flow_program.proofs.Cited.{next_of}
 use Rattle.charges.proofs.PaidLemmas.{set_room, set_past, set_more}
 use Rattle.charges.proofs.paid.with_set.Goals as goal
 

@@ -1,4 +1,4 @@
-use Rattle.number_sets.specs.Sets.{IsSet}
+use Rattle.structure_list.specs.number_sets.Sets.{IsSet}
 use Rattle.flow_program.specs.Entry.{entry}
 use Rattle.charges.proofs.PaidLemmas.{IsSetSoFar}
 use Rattle.charges.proofs.paid.with_set.Given as goal

@@ -1,6 +1,6 @@
 use Rattle.std.proofs.Common.{arith, pos, ◌<ℤ◌, ◌≤ℤ◌}
 use Rattle.std.proofs.lemmas.Int.{to_z-of_z, ints}
-use Rattle.flow_program.proofs.BoundSumLemmas.{least_at_high, least_at_low}
+use Rattle.flow_program.proofs.Cited.{least_at_high, least_at_low}
 use Rattle.charges.proofs.products.ordered_product.Goals as goal
 
 pub returns-then-factor-lt0 : goal.returns-then-factor-lt0

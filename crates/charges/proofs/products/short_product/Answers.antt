@@ -1,7 +1,7 @@
 use Rattle.std.proofs.Common.{◌^◌, SFits, rules, arith, ◌*ℤ◌}
 use Rattle.std.specs.Int.{w64, w128}
 use Rattle.std.proofs.lemmas.Int.{to_z-of_z, ints}
-use Rattle.flow_program.proofs.SizeLemmas.{size_mul, fits_small}
+use Rattle.flow_program.proofs.Cited.{size_mul, fits_small}
 use Rattle.charges.proofs.products.short_product.Goals as goal
 
 pub overflow_mul-result : goal.overflow_mul-result

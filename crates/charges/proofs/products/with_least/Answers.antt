@@ -1,7 +1,7 @@
 use Rattle.std.proofs.Common.{rules, SFits}
 use Rattle.std.specs.Int.{w128}
 use Rattle.std.proofs.lemmas.Int.{to_z-of_z}
-use Rattle.flow_program.proofs.BoundSumLemmas.{second_past}
+use Rattle.flow_program.proofs.Cited.{second_past}
 use Rattle.charges.proofs.products.with_least.Goals as goal
 
 pub returns-in-None-clause-past : goal.returns-in-None-clause-past

@@ -1,11 +1,11 @@
 use Rattle.std.proofs.Common.{to_z, refl, SFits, rules, get_or, pos, arith}
 use Rattle.std.specs.Int.{w128}
 use Rattle.std.proofs.lemmas.Int.{to_z-of_z}
-use Rattle.number_sets.proofs.SetLemmas.{length_below}
-use Rattle.pgraph.specs.View.{node_of}
-use Rattle.flow_rules.specs.Net.{net_of}
+use Rattle.structure_list.proofs.number_sets.Cited.{length_below}
+use Rattle.structure_list.specs.pgraph.View.{node_of}
+use Rattle.structure_list.specs.flow_rules.Net.{net_of}
 use Rattle.flow_program.specs.Entry.{entry}
-use Rattle.flow_program.proofs.WalkLemmas.{next_of}
+use Rattle.flow_program.proofs.Cited.{next_of}
 use Rattle.charges.proofs.RowLemmas.{row_sum_room, row_past, row_sum_more}
 use Rattle.charges.proofs.rows.rows_sum.Goals as goal
 

@@ -1,6 +1,6 @@
-use Rattle.number_sets.specs.Sets.{IsSet}
-use Rattle.pgraph.specs.View.{node_of}
-use Rattle.flow_rules.specs.Net.{net_of}
+use Rattle.structure_list.specs.number_sets.Sets.{IsSet}
+use Rattle.structure_list.specs.pgraph.View.{node_of}
+use Rattle.structure_list.specs.flow_rules.Net.{net_of}
 use Rattle.flow_program.specs.Entry.{entry}
 use Rattle.charges.proofs.RowLemmas.{IsRowSum}
 use Rattle.charges.proofs.rows.rows_sum.Given as goal

@@ -1,8 +1,8 @@
 use Rattle.std.proofs.Common.{subst, sym, SFits, rules, get_or, pos, refl}
 use Rattle.std.specs.Int.{w128}
 use Rattle.std.proofs.lemmas.Int.{to_z-of_z}
-use Rattle.number_sets.specs.Sets.{IsSet}
-use Rattle.flow_program.proofs.WalkLemmas.{next_of, IsNext}
+use Rattle.structure_list.specs.number_sets.Sets.{IsSet}
+use Rattle.flow_program.proofs.Cited.{next_of, IsNext}
 use Rattle.charges.proofs.TableLemmas.{tabled_more, none_tabled, tabled_all}
 use Rattle.charges.proofs.tables.table_of.Goals as goal
 

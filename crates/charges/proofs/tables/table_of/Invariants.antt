@@ -1,4 +1,4 @@
-use Rattle.number_sets.specs.Sets.{IsSet}
+use Rattle.structure_list.specs.number_sets.Sets.{IsSet}
 use Rattle.charges.proofs.TableLemmas.{IsTabled}
 use Rattle.charges.proofs.tables.table_of.Given as goal
 

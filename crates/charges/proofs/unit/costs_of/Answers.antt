@@ -1,8 +1,8 @@
 use Rattle.std.specs.Int.{w128}
 use Rattle.std.proofs.lemmas.Int.{to_z-of_z}
 use Rattle.std.proofs.Common.{SFits, rules, ◌∙◌, ap, List, ℕ}
-use Rattle.number_sets.specs.Sets.{with_number}
-use Rattle.flow_rules.specs.Net.{net_of, trillion}
+use Rattle.structure_list.specs.number_sets.Sets.{with_number}
+use Rattle.structure_list.specs.flow_rules.Net.{net_of, trillion}
 use Rattle.charges.proofs.UnitLemmas.{alone_cost, alone_fixed}
 use Rattle.charges.proofs.unit.costs_of.Goals as goal
 

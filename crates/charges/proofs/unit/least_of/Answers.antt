@@ -3,9 +3,9 @@ use Rattle.std.specs.Int.{w128}
 use Rattle.std.proofs.lemmas.Int.{to_z-of_z}
 use Rattle.charges.specs.Bends.{as_owed, knees_in}
 use Rattle.charges.proofs.UnitLemmas.{sizes_past, sizes_fit, sizes_count, sizes_value}
-use Rattle.flow_rules.proofs.LeadingLemmas.{IsFirstPast-left}
-use Rattle.flow_rules.specs.Charge.{bent}
-use Rattle.flow_rules.specs.ChargeSteps.{knee_steps, size_steps}
+use Rattle.structure_list.proofs.flow_rules.Cited.{IsFirstPast-left}
+use Rattle.structure_list.specs.flow_rules.Charge.{bent}
+use Rattle.structure_list.specs.flow_rules.ChargeSteps.{knee_steps, size_steps}
 use Rattle.charges.proofs.unit.least_of.Goals as goal
 
 pub returns-in-Err-clause-past : goal.returns-in-Err-clause-past

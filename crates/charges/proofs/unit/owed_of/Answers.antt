@@ -1,7 +1,7 @@
 use Rattle.std.proofs.Common.{rules, SFits}
 use Rattle.std.specs.Int.{w128}
 use Rattle.std.proofs.lemmas.Int.{to_z-of_z}
-use Rattle.flow_rules.proofs.LeadingLemmas.{IsFirstPast-left, AreInRange-append}
+use Rattle.structure_list.proofs.flow_rules.Cited.{IsFirstPast-left, AreInRange-append}
 use Rattle.flow_program.specs.Entry.{entry}
 use Rattle.charges.specs.Columns.{each_steps, once_steps}
 use Rattle.charges.proofs.UnitLemmas.{once_past, owed_count}

@@ -1,10 +1,9 @@
 use Rattle.std.proofs.Common.{◌∙◌, refl, ap, SFits, rules, to_z, get_or, pos, ℤ, arith, ◌-ℤ◌}
 use Rattle.std.specs.Int.{w64, w128}
 use Rattle.std.proofs.lemmas.Int.{to_z-of_z}
-use Rattle.number_sets.proofs.SetLemmas.{length_below}
+use Rattle.structure_list.proofs.number_sets.Cited.{length_below}
 use Rattle.flow_program.specs.Entry.{entry}
-use Rattle.flow_program.proofs.WalkLemmas.{next_of}
-use Rattle.flow_program.proofs.BoundSumLemmas.{product_past, difference_past, reduced_more}
+use Rattle.flow_program.proofs.Cited.{next_of, product_past, difference_past, reduced_more}
 use Rattle.charges.proofs.UnitLemmas.{reduced_small, reduced_count}
 use Rattle.charges.proofs.unit.reduced.Goals as goal
 

@@ -1,6 +1,6 @@
-use Rattle.number_sets.specs.Sets.{IsSet}
+use Rattle.structure_list.specs.number_sets.Sets.{IsSet}
 use Rattle.flow_program.specs.Entry.{entry}
-use Rattle.flow_program.proofs.BoundSumLemmas.{IsReducedSoFar}
+use Rattle.flow_program.proofs.Cited.{IsReducedSoFar}
 use Rattle.charges.proofs.unit.reduced.Given as goal
 
 abbrev pub invariant-loop-j : goal.invariant-loop-j

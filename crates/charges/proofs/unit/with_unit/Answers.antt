@@ -1,9 +1,9 @@
 use Rattle.std.proofs.Common.{rules, SFits, ◌++◌}
 use Rattle.std.specs.Int.{w128}
 use Rattle.std.proofs.lemmas.Int.{to_z-of_z}
-use Rattle.flow_rules.proofs.LeadingLemmas.{IsFirstPast-left}
+use Rattle.structure_list.proofs.flow_rules.Cited.{IsFirstPast-left}
 use Rattle.flow_program.specs.Entry.{entry}
-use Rattle.flow_rules.specs.ChargeSteps.{sum_steps}
+use Rattle.structure_list.specs.flow_rules.ChargeSteps.{sum_steps}
 use Rattle.charges.specs.Bends.{as_owed, knees_in}
 use Rattle.charges.specs.Columns.{owed_in, owed_steps, bent_steps, charge_in}
 use Rattle.charges.proofs.ColumnLemmas.{bent_past, part_past, column_fit, column_count}

@@ -1,7 +1,7 @@
 use Rattle.std.proofs.Common.{SFits, rules, ◌∙◌}
 use Rattle.std.specs.Int.{w128}
 use Rattle.std.proofs.lemmas.Int.{to_z-of_z}
-use Rattle.flow_rules.specs.Charge.{at_most}
+use Rattle.structure_list.specs.flow_rules.Charge.{at_most}
 use Rattle.charges.proofs.useful.most_used.Goals as goal
 
 pub returns-clause-value : goal.returns-clause-value

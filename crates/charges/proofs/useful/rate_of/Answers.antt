@@ -2,8 +2,8 @@ use Rattle.std.proofs.Common.{◌<◌, ◌≤◌, ◌∙◌, sym, ap, subst, ℤ
 use Rattle.std.specs.Prelude.{unsigned_abs}
 use Rattle.std.specs.Int.{w64}
 use Rattle.std.proofs.lemmas.Int.{to_z-of_z}
-use Rattle.problem_rules.specs.Problem.{Problem, rate_of}
-use Rattle.problem_rules.proofs.ValidLemmas.{well_formed_from_valid}
+use Rattle.structure_list.specs.problem_rules.Problem.{Problem, rate_of}
+use Rattle.structure_list.proofs.problem_rules.Cited.{well_formed_from_valid}
 use Rattle.charges.proofs.UseLemmas.{rate_small}
 use Rattle.charges.proofs.useful.rate_of.Goals as goal
 

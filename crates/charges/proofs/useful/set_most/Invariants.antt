@@ -1,7 +1,7 @@
 use Rattle.std.proofs.Common.{◌*ℤ◌}
-use Rattle.number_sets.specs.Sets.{IsSet}
-use Rattle.flow_rules.specs.Net.{net_of}
-use Rattle.flow_rules.specs.ChargeFacts.{use_rate}
+use Rattle.structure_list.specs.number_sets.Sets.{IsSet}
+use Rattle.structure_list.specs.flow_rules.Net.{net_of}
+use Rattle.structure_list.specs.flow_rules.ChargeFacts.{use_rate}
 use Rattle.charges.specs.Known.{facts_of}
 use Rattle.charges.proofs.UseLemmas.{IsUseSum}
 use Rattle.charges.proofs.useful.set_most.Given as goal

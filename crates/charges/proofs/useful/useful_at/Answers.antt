@@ -3,16 +3,15 @@ use Rattle.std.proofs.Common.{replicate, length}
 use Rattle.std.specs.Prelude.{◌&&◌, not}
 use Rattle.std.specs.Int.{w128}
 use Rattle.std.proofs.lemmas.Int.{to_z-of_z}
-use Rattle.number_sets.specs.Sets.{has, minus, IsSet}
-use Rattle.number_sets.proofs.SetLemmas.{has-minus}
-use Rattle.pns_rules.specs.Shape.{Shape, shape_of}
-use Rattle.pns_rules.specs.Structure.{mats}
-use Rattle.pgraph.specs.View.{node_of}
-use Rattle.flow_rules.specs.Net.{net_of}
-use Rattle.flow_rules.specs.Relaxed.{stays}
-use Rattle.flow_program.proofs.NodeSetLemmas.{listed_had}
-use Rattle.flow_program.proofs.WalkLemmas.{next_of, has_next}
-use Rattle.flow_rules.specs.Charge.{useful}
+use Rattle.structure_list.specs.number_sets.Sets.{has, minus, IsSet}
+use Rattle.structure_list.proofs.number_sets.Cited.{has-minus}
+use Rattle.structure_list.specs.pns_rules.Shape.{Shape, shape_of}
+use Rattle.structure_list.specs.pns_rules.Structure.{mats}
+use Rattle.structure_list.specs.pgraph.View.{node_of}
+use Rattle.structure_list.specs.flow_rules.Net.{net_of}
+use Rattle.structure_list.specs.flow_rules.Relaxed.{stays}
+use Rattle.flow_program.proofs.Cited.{listed_had, next_of, has_next}
+use Rattle.structure_list.specs.flow_rules.Charge.{useful}
 use Rattle.charges.specs.Known.{facts_of}
 use Rattle.charges.proofs.OwnLemmas.{same_all}
 use Rattle.charges.proofs.UseLemmas.{table_begins, table_more, table_ends, first_of}

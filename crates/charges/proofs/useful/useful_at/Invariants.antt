@@ -1,7 +1,7 @@
-use Rattle.number_sets.specs.Sets.{IsSet}
-use Rattle.pgraph.specs.View.{node_of}
-use Rattle.flow_rules.specs.Net.{net_of}
-use Rattle.flow_rules.specs.Charge.{useful}
+use Rattle.structure_list.specs.number_sets.Sets.{IsSet}
+use Rattle.structure_list.specs.pgraph.View.{node_of}
+use Rattle.structure_list.specs.flow_rules.Net.{net_of}
+use Rattle.structure_list.specs.flow_rules.Charge.{useful}
 use Rattle.charges.specs.Known.{facts_of}
 use Rattle.charges.proofs.UseLemmas.{IsTableSoFar}
 use Rattle.charges.proofs.useful.useful_at.Given as goal

@@ -1,13 +1,13 @@
 use Rattle.std.proofs.Common.{◌≡◌, ◌<◌, ◌∙◌, sym, ap, subst, ◌+ℤ◌, SFits, rules, length}
 use Rattle.std.specs.Int.{w128}
 use Rattle.std.proofs.lemmas.Int.{to_z-of_z}
-use Rattle.problem_rules.specs.Problem.{Problem}
-use Rattle.pns_rules.specs.Shape.{shape_of}
-use Rattle.pgraph.specs.View.{node_of}
-use Rattle.flow_rules.specs.Net.{net_of}
-use Rattle.flow_rules.specs.Relaxed.{row_low}
+use Rattle.structure_list.specs.problem_rules.Problem.{Problem}
+use Rattle.structure_list.specs.pns_rules.Shape.{shape_of}
+use Rattle.structure_list.specs.pgraph.View.{node_of}
+use Rattle.structure_list.specs.flow_rules.Net.{net_of}
+use Rattle.structure_list.specs.flow_rules.Relaxed.{row_low}
 use Rattle.flow_program.specs.NodeSets.{AreNeeded}
-use Rattle.flow_rules.specs.Charge.{at_most, users_most}
+use Rattle.structure_list.specs.flow_rules.Charge.{at_most, users_most}
 use Rattle.charges.specs.Known.{facts_of}
 use Rattle.charges.proofs.useful.useful_of.Goals as goal
 

@@ -1,13 +1,13 @@
 use Rattle.std.proofs.Common.{◌∙◌, ◌<◌, sym, ap, subst, ℕ, List, length, SFits, rules}
 use Rattle.std.specs.Int.{w128}
 use Rattle.std.proofs.lemmas.Int.{to_z-of_z}
-use Rattle.number_sets.specs.Sets.{has}
-use Rattle.number_sets.proofs.SetLemmas.{has-meet}
-use Rattle.problem_rules.proofs.ValidLemmas.{well_formed_from_valid}
-use Rattle.pns_rules.specs.Shape.{Shape}
-use Rattle.pgraph.specs.View.{node_of}
-use Rattle.flow_rules.specs.Relaxed.{stays}
-use Rattle.flow_program.proofs.NodeSetLemmas.{listed_had}
+use Rattle.structure_list.specs.number_sets.Sets.{has}
+use Rattle.structure_list.proofs.number_sets.Cited.{has-meet}
+use Rattle.structure_list.proofs.problem_rules.Cited.{well_formed_from_valid}
+use Rattle.structure_list.specs.pns_rules.Shape.{Shape}
+use Rattle.structure_list.specs.pgraph.View.{node_of}
+use Rattle.structure_list.specs.flow_rules.Relaxed.{stays}
+use Rattle.flow_program.proofs.Cited.{listed_had}
 use Rattle.charges.specs.Known.{facts_of}
 use Rattle.charges.proofs.UseLemmas.{users_total, first_of}
 use Rattle.charges.proofs.useful.users_most.Goals as goal

@@ -1,9 +1,10 @@
 use Rattle.std.proofs.Common.{◌≡◌, ◌++◌, ◌∷◌, [], refl, inl, List, ℕ, codes}
-use Rattle.studio_rules.specs.Lines.{line}
-use Rattle.studio_rules.specs.Reading.{LongFile}
-use Rattle.studio_rules.specs.Ending.{Says}
-use Rattle.studio_rules.specs.declared.status.Status.{Status}
-use Rattle.studio_rules.specs.declared.status.Status.TheVariants.{ReadFault, Memory, TooLong}
+use Rattle.studio_words.specs.studio_rules.Lines.{line}
+use Rattle.studio_words.specs.studio_rules.Reading.{LongFile}
+use Rattle.studio_words.specs.studio_rules.Ending.{Says}
+use Rattle.studio_words.specs.studio_rules.declared.status.Status.{Status}
+use Rattle.studio_words.specs.studio_rules.declared.status.Status.TheVariants.{ReadFault, Memory}
+use Rattle.studio_words.specs.studio_rules.declared.status.Status.TheVariants.{TooLong}
 use Rattle.command_files.proofs.Ending.{Ends-map, only_in, only_or_memory_in, one_line}
 use Rattle.command_files.proofs.Files.{long_file}
 use Rattle.command_files.proofs.file.bytes_of.Goals as goal

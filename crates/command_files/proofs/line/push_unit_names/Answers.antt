@@ -1,7 +1,7 @@
 use Rattle.std.proofs.Common.{◌≡◌, ◌++◌, ◌∷◌, List, ℕ, subst, sym, ap, ◌∙◌}
-use Rattle.number_sets.specs.Sets.{has, IsSet}
-use Rattle.problem_rules.specs.Problem.{OperatingUnit, unit_names}
-use Rattle.studio_rules.specs.Lines.{spaced_names, names_in}
+use Rattle.pns_text.specs.number_sets.Sets.{has, IsSet}
+use Rattle.pns_text.specs.problem_rules.Problem.{OperatingUnit, unit_names}
+use Rattle.studio_words.specs.studio_rules.Lines.{spaced_names, names_in}
 use Rattle.command_files.proofs.Names.{line_goes_on, line_same, line_ends}
 use Rattle.command_files.proofs.line.push_unit_names.Goals as goal
 

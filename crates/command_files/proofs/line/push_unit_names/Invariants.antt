@@ -1,7 +1,7 @@
 use Rattle.std.proofs.Common.{◌≡◌, ◌++◌}
-use Rattle.number_sets.specs.Sets.{has, IsSet}
-use Rattle.problem_rules.specs.Problem.{unit_names}
-use Rattle.studio_rules.specs.Lines.{spaced_names, names_in}
+use Rattle.pns_text.specs.number_sets.Sets.{has, IsSet}
+use Rattle.pns_text.specs.problem_rules.Problem.{unit_names}
+use Rattle.studio_words.specs.studio_rules.Lines.{spaced_names, names_in}
 use Rattle.command_files.proofs.line.push_unit_names.Given as goal
 
 -- the names to come finish the line

@@ -1,10 +1,10 @@
 use Rattle.std.proofs.Common.{◌≡◌, ◌∷◌, [], Err, refl, sym, ◌∙◌, inl, List, ℕ, codes, ap}
-use Rattle.plan_rules.specs.Meaning.{read_plan}
-use Rattle.studio_rules.specs.Lines.{line}
-use Rattle.studio_rules.specs.Plan.{PlanFileFault, PlanFaults, plan_fault_line}
-use Rattle.studio_rules.specs.Ending.{Says}
-use Rattle.studio_rules.specs.declared.status.Status.{Status}
-use Rattle.studio_rules.specs.declared.status.Status.TheVariants.{BadPlan, Memory}
+use Rattle.periods.specs.plan_rules.Meaning.{read_plan}
+use Rattle.studio_words.specs.studio_rules.Lines.{line}
+use Rattle.studio_words.specs.studio_rules.Plan.{PlanFileFault, PlanFaults, plan_fault_line}
+use Rattle.studio_words.specs.studio_rules.Ending.{Says}
+use Rattle.studio_words.specs.studio_rules.declared.status.Status.{Status}
+use Rattle.studio_words.specs.studio_rules.declared.status.Status.TheVariants.{BadPlan, Memory}
 use Rattle.command_files.proofs.Ending.{Ends-map, Ends-from, only_in, only_or_memory_in, one_line}
 use Rattle.command_files.proofs.Seconds.{long-faults}
 use Rattle.command_files.proofs.plan_file.plan_of.Goals as goal

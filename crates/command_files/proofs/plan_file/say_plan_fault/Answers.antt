@@ -1,8 +1,8 @@
 use Rattle.std.proofs.Common.{◌∙◌, inl, inr}
-use Rattle.studio_rules.specs.Lines.{line}
-use Rattle.studio_rules.specs.Plan.{plan_fault_line}
-use Rattle.studio_rules.specs.Ending.{Only, OrMemory}
-use Rattle.studio_rules.specs.declared.status.Status.TheVariants.{BadPlan}
+use Rattle.studio_words.specs.studio_rules.Lines.{line}
+use Rattle.studio_words.specs.studio_rules.Plan.{plan_fault_line}
+use Rattle.studio_words.specs.studio_rules.Ending.{Only, OrMemory}
+use Rattle.studio_words.specs.studio_rules.declared.status.Status.TheVariants.{BadPlan}
 use Rattle.command_files.proofs.Ending.{Ends-map}
 use Rattle.command_files.proofs.plan_file.say_plan_fault.Goals as goal
 

@@ -1,10 +1,10 @@
 use Rattle.std.proofs.Common.{◌≡◌, ◌∷◌, [], Err, refl, sym, ◌∙◌, inl, List, ℕ, codes, ap}
-use Rattle.text_rules.specs.Value.{read_text}
-use Rattle.studio_rules.specs.Lines.{line}
-use Rattle.studio_rules.specs.Reading.{FileFault, FileFaults, fault_line}
-use Rattle.studio_rules.specs.Ending.{Says}
-use Rattle.studio_rules.specs.declared.status.Status.{Status}
-use Rattle.studio_rules.specs.declared.status.Status.TheVariants.{BadProblem, Memory}
+use Rattle.pns_text.specs.text_rules.Value.{read_text}
+use Rattle.studio_words.specs.studio_rules.Lines.{line}
+use Rattle.studio_words.specs.studio_rules.Reading.{FileFault, FileFaults, fault_line}
+use Rattle.studio_words.specs.studio_rules.Ending.{Says}
+use Rattle.studio_words.specs.studio_rules.declared.status.Status.{Status}
+use Rattle.studio_words.specs.studio_rules.declared.status.Status.TheVariants.{BadProblem, Memory}
 use Rattle.command_files.proofs.Ending.{Ends-map, Ends-from, only_in, only_or_memory_in, one_line}
 use Rattle.command_files.proofs.Seconds.{long-faults}
 use Rattle.command_files.proofs.problem_file.plant_of.Goals as goal

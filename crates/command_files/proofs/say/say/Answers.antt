@@ -1,5 +1,5 @@
 use Rattle.std.proofs.Common.{refl}
-use Rattle.studio_rules.specs.Ending.{Only}
+use Rattle.studio_words.specs.studio_rules.Ending.{Only}
 use Rattle.command_files.proofs.Put.{answer_text, Ends-whole, Ends-stopped}
 use Rattle.command_files.proofs.say.say.Goals as goal
 

@@ -1,5 +1,5 @@
 use Rattle.std.proofs.Common.{◌++◌, ◌∙◌, ap, refl, List, ℕ, append_assoc}
-use Rattle.studio_rules.specs.Ending.{Only}
+use Rattle.studio_words.specs.studio_rules.Ending.{Only}
 use Rattle.command_files.proofs.Ending.{GoesOut, Ends-after, only_in}
 use Rattle.command_files.proofs.Put.{answer_text, answer_goes, Ends-stopped}
 use Rattle.command_files.proofs.say.say_both.Goals as goal

@@ -1,7 +1,7 @@
 use Rattle.std.proofs.Common.{◌≡◌, ◌∙◌, inl, inr}
-use Rattle.studio_rules.specs.Lines.{text_of}
-use Rattle.studio_rules.specs.Ending.{Only, OrMemory}
-use Rattle.studio_rules.specs.declared.status.Status.TheVariants.{Done}
+use Rattle.studio_words.specs.studio_rules.Lines.{text_of}
+use Rattle.studio_words.specs.studio_rules.Ending.{Only, OrMemory}
+use Rattle.studio_words.specs.studio_rules.declared.status.Status.TheVariants.{Done}
 use Rattle.command_files.proofs.Ending.{Ends-map}
 use Rattle.command_files.proofs.say.say_made.Goals as goal
 

@@ -1,11 +1,12 @@
 use Rattle.std.proofs.Common.{◌∙◌, ap, sym, subst, Result, Err, refl, inl, inr}
 use Rattle.tree_text.specs.declared.fault.PrintFault.{PrintFault}
 use Rattle.tree_text.specs.Prints.{Prints}
-use Rattle.studio_rules.specs.Printed.{OneAnswer}
-use Rattle.studio_rules.specs.Ending.{Ends, Tells}
-use Rattle.studio_rules.specs.declared.status.Status.{Status}
-use Rattle.studio_rules.specs.declared.status.Status.TheVariants.{Past, Spent}
-use Rattle.command_files.proofs.Printing.{printed_whole, printed_front, printed_first, printed_unfinished}
+use Rattle.studio_words.specs.studio_rules.Printed.{OneAnswer}
+use Rattle.studio_words.specs.studio_rules.Ending.{Ends, Tells}
+use Rattle.studio_words.specs.studio_rules.declared.status.Status.{Status}
+use Rattle.studio_words.specs.studio_rules.declared.status.Status.TheVariants.{Past, Spent}
+use Rattle.command_files.proofs.Printing.{printed_whole, printed_front, printed_first}
+use Rattle.command_files.proofs.Printing.{printed_unfinished}
 use Rattle.command_files.proofs.Printing.{printing_text, tells_all}
 use Rattle.command_files.proofs.say.say_searched.Goals as goal
 

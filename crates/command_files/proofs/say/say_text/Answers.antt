@@ -1,6 +1,6 @@
 use Rattle.std.proofs.Common.{refl, sym, ◌∙◌, arith, length}
 use Rattle.std.proofs.lemmas.Bool.{eqb-true}
-use Rattle.studio_rules.specs.Ending.{Only}
+use Rattle.studio_words.specs.studio_rules.Ending.{Only}
 use Rattle.command_files.proofs.Ending.{HasRisen-later}
 use Rattle.command_files.proofs.Put.{put_more, put_stopped, put_whole, answer_text, Ends-whole}
 use Rattle.command_files.proofs.Put.{Ends-stopped}

@@ -1,6 +1,6 @@
 use Rattle.std.proofs.Common.{◌∙◌}
-use Rattle.studio_rules.specs.Ending.{Only}
-use Rattle.studio_rules.specs.declared.status.Status.TheVariants.{Done}
+use Rattle.studio_words.specs.studio_rules.Ending.{Only}
+use Rattle.studio_words.specs.studio_rules.declared.status.Status.TheVariants.{Done}
 use Rattle.command_files.proofs.Ending.{Ends-map}
 use Rattle.command_files.proofs.say.say_told.Goals as goal
 

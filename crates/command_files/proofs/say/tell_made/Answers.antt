@@ -1,7 +1,7 @@
 use Rattle.std.proofs.Common.{◌≡◌, ◌∙◌, inl, inr}
 use Rattle.std.specs.String.{string_bytes}
-use Rattle.studio_rules.specs.Lines.{line}
-use Rattle.studio_rules.specs.Ending.{Only, OrMemory}
+use Rattle.studio_words.specs.studio_rules.Lines.{line}
+use Rattle.studio_words.specs.studio_rules.Ending.{Only, OrMemory}
 use Rattle.command_files.proofs.Ending.{Ends-map}
 use Rattle.command_files.proofs.say.tell_made.Goals as goal
 

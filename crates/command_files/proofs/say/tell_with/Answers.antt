@@ -1,6 +1,6 @@
 use Rattle.std.proofs.Common.{◌++◌, ◌∙◌, inl, inr}
-use Rattle.studio_rules.specs.Lines.{line}
-use Rattle.studio_rules.specs.Ending.{Only, OrMemory}
+use Rattle.studio_words.specs.studio_rules.Lines.{line}
+use Rattle.studio_words.specs.studio_rules.Ending.{Only, OrMemory}
 use Rattle.command_files.proofs.Ending.{Ends-map}
 use Rattle.command_files.proofs.say.tell_with.Goals as goal
 

@@ -1,9 +1,10 @@
 use Rattle.std.proofs.Common.{◌≡◌, ◌∷◌, [], refl, inl, List, ℕ, codes, subst}
-use Rattle.studio_rules.specs.Lines.{line}
-use Rattle.studio_rules.specs.Script.{ScriptFault, ScriptFaults, HasEditFault, edit_fault_line}
-use Rattle.studio_rules.specs.Ending.{Says}
-use Rattle.studio_rules.specs.declared.status.Status.{Status}
-use Rattle.studio_rules.specs.declared.status.Status.TheVariants.{BadEdit, Memory}
+use Rattle.studio_words.specs.studio_rules.Lines.{line}
+use Rattle.studio_words.specs.studio_rules.Script.{ScriptFault, ScriptFaults, HasEditFault}
+use Rattle.studio_words.specs.studio_rules.Script.{edit_fault_line}
+use Rattle.studio_words.specs.studio_rules.Ending.{Says}
+use Rattle.studio_words.specs.studio_rules.declared.status.Status.{Status}
+use Rattle.studio_words.specs.studio_rules.declared.status.Status.TheVariants.{BadEdit, Memory}
 use Rattle.command_files.proofs.Ending.{Ends-map, Ends-from, only_in, only_or_memory_in, one_line}
 use Rattle.command_files.proofs.Seconds.{long-faults}
 use Rattle.command_files.proofs.script_file.edited_of.Goals as goal

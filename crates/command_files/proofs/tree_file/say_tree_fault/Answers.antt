@@ -1,8 +1,8 @@
 use Rattle.std.proofs.Common.{◌∙◌, inl, inr}
-use Rattle.studio_rules.specs.Lines.{line}
-use Rattle.studio_rules.specs.TreeFile.{tree_fault_line}
-use Rattle.studio_rules.specs.Ending.{Only, OrMemory}
-use Rattle.studio_rules.specs.declared.status.Status.TheVariants.{BadTree}
+use Rattle.studio_words.specs.studio_rules.Lines.{line}
+use Rattle.studio_words.specs.studio_rules.TreeFile.{tree_fault_line}
+use Rattle.studio_words.specs.studio_rules.Ending.{Only, OrMemory}
+use Rattle.studio_words.specs.studio_rules.declared.status.Status.TheVariants.{BadTree}
 use Rattle.command_files.proofs.Ending.{Ends-map}
 use Rattle.command_files.proofs.tree_file.say_tree_fault.Goals as goal
 

@@ -1,11 +1,11 @@
 use Rattle.std.proofs.Common.{◌≡◌, ◌∷◌, [], Ok, Err, refl, sym, ◌∙◌, inl, List, ℕ, codes, ap}
-use Rattle.branch_tree.specs.View.{claim_of, tail_of}
-use Rattle.tree_text_rules.specs.Read.{read_text}
-use Rattle.studio_rules.specs.Lines.{line}
-use Rattle.studio_rules.specs.TreeFile.{TreeFault, TreeFaults, tree_fault_line}
-use Rattle.studio_rules.specs.Ending.{Says}
-use Rattle.studio_rules.specs.declared.status.Status.{Status}
-use Rattle.studio_rules.specs.declared.status.Status.TheVariants.{BadTree, Memory}
+use Rattle.tree_reading.specs.branch_tree.View.{claim_of, tail_of}
+use Rattle.tree_reading.specs.tree_text_rules.Read.{read_text}
+use Rattle.studio_words.specs.studio_rules.Lines.{line}
+use Rattle.studio_words.specs.studio_rules.TreeFile.{TreeFault, TreeFaults, tree_fault_line}
+use Rattle.studio_words.specs.studio_rules.Ending.{Says}
+use Rattle.studio_words.specs.studio_rules.declared.status.Status.{Status}
+use Rattle.studio_words.specs.studio_rules.declared.status.Status.TheVariants.{BadTree, Memory}
 use Rattle.command_files.proofs.Ending.{Ends-map, Ends-from, only_in, only_or_memory_in, one_line}
 use Rattle.command_files.proofs.Seconds.{long-faults}
 use Rattle.command_files.proofs.tree_file.tree_of.Goals as goal

@@ -1,8 +1,8 @@
 use Rattle.std.proofs.Common.{◌≡◌, ◌∙◌, inl}
-use Rattle.studio_rules.specs.Lines.{line}
-use Rattle.studio_rules.specs.RefusalWords.{node_line}
-use Rattle.studio_rules.specs.Ending.{Only, OrMemory}
-use Rattle.studio_rules.specs.declared.status.Status.TheVariants.{BadClaim}
+use Rattle.studio_words.specs.studio_rules.Lines.{line}
+use Rattle.studio_words.specs.studio_rules.RefusalWords.{node_line}
+use Rattle.studio_words.specs.studio_rules.Ending.{Only, OrMemory}
+use Rattle.studio_words.specs.studio_rules.declared.status.Status.TheVariants.{BadClaim}
 use Rattle.command_files.proofs.Ending.{Ends-map}
 use Rattle.command_files.proofs.words.tell_node.Goals as goal
 

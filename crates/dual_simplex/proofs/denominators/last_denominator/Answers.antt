@@ -1,7 +1,7 @@
 use Rattle.std.proofs.Common.{◌≡◌, ◌<◌, SFits, arith, ap, ◌∙◌, ℕ}
 use Rattle.std.specs.Int.{w128}
 use Rattle.std.proofs.lemmas.Int.{to_z-of_z}
-use Rattle.exact_numbers.proofs.RangeLemmas.{fits_from_range}
+use Rattle.flow_program.proofs.exact_numbers.Cited.{fits_from_range}
 use Rattle.dual_simplex.proofs.DenominatorLemmas.{first_round_more, first_round_end}
 use Rattle.dual_simplex.proofs.DenominatorLemmas.{first_round_past}
 use Rattle.dual_simplex.proofs.denominators.last_denominator.Goals as goal

@@ -2,11 +2,11 @@ use Rattle.std.proofs.Common.{◌≡◌, ◌∙◌, true, false, ap, SFits, ℕ,
 use Rattle.std.proofs.Common.{Some, None}
 use Rattle.std.specs.Int.{w128}
 use Rattle.std.proofs.lemmas.Int.{to_z-of_z}
-use Rattle.exact_numbers.proofs.RangeLemmas.{fits_from_range}
-use Rattle.integer_laws.specs.Lowest.{IsLowest}
-use Rattle.integer_laws.specs.Range.{InRange}
+use Rattle.flow_program.proofs.exact_numbers.Cited.{fits_from_range}
+use Rattle.flow_program.specs.integer_laws.Lowest.{IsLowest}
+use Rattle.flow_program.specs.integer_laws.Range.{InRange}
 use Rattle.std.specs.Prelude.{unsigned_abs}
-use Rattle.flow_rules.specs.ReadFlows.{IsLcm}
+use Rattle.flow_program.specs.flow_rules.ReadFlows.{IsLcm}
 use Rattle.dual_simplex.specs.Rows.{table, basis}
 use Rattle.dual_simplex.specs.Choice.{columns_of}
 use Rattle.dual_simplex.proofs.ValueLemmas.{next_outside}

@@ -2,8 +2,8 @@ use Rattle.std.proofs.Common.{pos, SFits, rules, get_or}
 use Rattle.std.proofs.lemmas.Int.{to_z-of_z}
 use Rattle.std.specs.Int.{w128}
 use Rattle.std.proofs.lemmas.List.Elements.{All-set}
-use Rattle.integer_laws.specs.Range.{InRange}
-use Rattle.exact_numbers.proofs.Division.{divided_more, entry_left}
+use Rattle.flow_program.specs.integer_laws.Range.{InRange}
+use Rattle.flow_program.proofs.exact_numbers.Cited.{divided_more, entry_left}
 use Rattle.std.specs.Prelude.{int_div, unsigned_abs, ℤ}
 use Rattle.std.specs.Int.{◌∣◌}
 use Rattle.std.proofs.Common.{subst, sym}

@@ -1,6 +1,6 @@
 use Rattle.std.proofs.Common.{ℕ, ◌≡◌, ℤ, List, take, drop, ◌++◌, map}
 use Rattle.std.specs.Prelude.{int_div}
-use Rattle.integer_laws.specs.Range.{AllInRange}
+use Rattle.flow_program.specs.integer_laws.Range.{AllInRange}
 use Rattle.dual_simplex.proofs.division.divide.Given as goal
 
 pub record IsDivided (old new : List ℤ) (i : ℕ) (divisor : ℤ) : Type 0 where

@@ -1,7 +1,7 @@
 use Rattle.std.proofs.Common.{ap, ◌∙◌, ◌*ℤ◌, ℤ}
 use Rattle.std.proofs.lemmas.Int.{quot_is, quot_fits}
 use Rattle.std.specs.Int.{w128}
-use Rattle.exact_numbers.proofs.Division.{quotient_exact}
+use Rattle.flow_program.proofs.exact_numbers.Cited.{quotient_exact}
 use Rattle.dual_simplex.proofs.division.quotient.Goals as goal
 
 pub returns-clause-exact : goal.returns-clause-exact

@@ -1,7 +1,7 @@
 use Rattle.std.proofs.Common.{◌≡◌, ◌∷◌, ◌∙◌, SFits, ap, subst, rules, ℕ, ◌<◌, length, get_or, pos}
 use Rattle.std.specs.Int.{w128}
 use Rattle.std.proofs.lemmas.Int.{to_z-of_z}
-use Rattle.integer_laws.specs.Reduced.{IsReduced}
+use Rattle.flow_program.specs.integer_laws.Reduced.{IsReduced}
 use Rattle.dual_simplex.specs.Rows.{table}
 use Rattle.dual_simplex.specs.Choice.{scale_of}
 use Rattle.dual_simplex.specs.Dual.{multiplier_of}

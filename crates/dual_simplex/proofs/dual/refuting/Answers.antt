@@ -1,5 +1,5 @@
 use Rattle.std.proofs.Common.{◌≡◌, subst, rules, ℤ, List, length}
-use Rattle.integer_laws.specs.Reduced.{IsReduced}
+use Rattle.flow_program.specs.integer_laws.Reduced.{IsReduced}
 use Rattle.dual_simplex.proofs.PutLemmas.{multipliers_are}
 use Rattle.dual_simplex.proofs.dual.refuting.Goals as goal
 

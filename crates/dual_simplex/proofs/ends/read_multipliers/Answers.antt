@@ -1,9 +1,9 @@
 use Rattle.std.proofs.Common.{SFits, rules, ◌≡◌, subst, sym, List, ℤ, length}
 use Rattle.std.specs.Int.{w128}
 use Rattle.std.proofs.lemmas.Int.{to_z-of_z}
-use Rattle.flow_rules.specs.LinearProgram.{linear_of}
-use Rattle.flow_rules.specs.Columns.{scale_at}
-use Rattle.flow_rules.specs.Multipliers.{AreMultipliers}
+use Rattle.flow_program.specs.flow_rules.LinearProgram.{linear_of}
+use Rattle.flow_program.specs.flow_rules.Columns.{scale_at}
+use Rattle.flow_program.specs.flow_rules.Multipliers.{AreMultipliers}
 use Rattle.dual_simplex.specs.Rows.{table}
 use Rattle.dual_simplex.proofs.EndLemmas.{scale_positive, taken}
 use Rattle.dual_simplex.proofs.ends.read_multipliers.Goals as goal

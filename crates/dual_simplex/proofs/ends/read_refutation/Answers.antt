@@ -1,6 +1,6 @@
 use Rattle.std.proofs.Common.{rules, ◌≡◌, subst, sym, List, ℤ, length}
-use Rattle.flow_rules.specs.LinearProgram.{linear_of}
-use Rattle.flow_rules.specs.Multipliers.{AreRefuting}
+use Rattle.flow_program.specs.flow_rules.LinearProgram.{linear_of}
+use Rattle.flow_program.specs.flow_rules.Multipliers.{AreRefuting}
 use Rattle.dual_simplex.specs.Rows.{table}
 use Rattle.dual_simplex.proofs.EndLemmas.{taken}
 use Rattle.dual_simplex.proofs.ends.read_refutation.Goals as goal

@@ -3,8 +3,8 @@ use Rattle.std.proofs.Common.{suc, ℤ, ◌+ℤ◌, ◌*ℤ◌, length, ◌∙�
 use Rattle.std.specs.Prelude.{unsigned_abs}
 use Rattle.std.specs.Int.{w128}
 use Rattle.std.proofs.lemmas.Int.{to_z-of_z}
-use Rattle.integer_laws.specs.Total.{total_below}
-use Rattle.flow_rules.specs.LinearProgram.{LinearProgram, linear_of}
+use Rattle.flow_program.specs.integer_laws.Total.{total_below}
+use Rattle.flow_program.specs.flow_rules.LinearProgram.{LinearProgram, linear_of}
 use Rattle.dual_simplex.proofs.RowSizeLemmas.{few_units}
 use Rattle.dual_simplex.proofs.entries.flow_at_lows.Invariants.{IsSumTo}
 use Rattle.dual_simplex.proofs.entries.flow_at_lows.Goals as goal

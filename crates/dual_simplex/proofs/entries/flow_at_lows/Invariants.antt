@@ -1,6 +1,6 @@
 use Rattle.std.specs.Prelude.{◌≡◌, ◌≤◌, ◌*◌, ◌^◌, ℕ, ℤ, ◌*ℤ◌, unsigned_abs}
-use Rattle.integer_laws.specs.Total.{total_below}
-use Rattle.flow_rules.specs.LinearProgram.{LinearProgram, linear_of}
+use Rattle.flow_program.specs.integer_laws.Total.{total_below}
+use Rattle.flow_program.specs.flow_rules.LinearProgram.{LinearProgram, linear_of}
 use Rattle.dual_simplex.proofs.entries.flow_at_lows.Given as goal
 
 -- the sum over the units below i

@@ -1,7 +1,7 @@
 use Rattle.std.proofs.Common.{rules, ◌≡◌, ◌+◌, ◌*◌, ◌++◌, ◌≤◌, ℕ, ℤ, List, arith, sym, ap, ◌∙◌}
 use Rattle.std.proofs.Common.{subst, refl, length, drop}
 use Rattle.std.proofs.lemmas.List.Elements.{All-append, All-drop}
-use Rattle.integer_laws.specs.Range.{InRange, AllInRange}
+use Rattle.flow_program.specs.integer_laws.Range.{InRange, AllInRange}
 use Rattle.dual_simplex.specs.Rows.{row_at}
 use Rattle.dual_simplex.specs.Exchange.{pivot_row}
 use Rattle.dual_simplex.proofs.BlockLemmas.{below, row_before}

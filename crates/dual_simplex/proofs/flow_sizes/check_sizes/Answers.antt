@@ -1,6 +1,6 @@
 use Rattle.std.proofs.Common.{◌≡◌, ◌<◌, arith}
 use Rattle.std.proofs.lemmas.Int.{to_z-of_z}
-use Rattle.flow_rules.specs.LinearProgram.{linear_of}
+use Rattle.flow_program.specs.flow_rules.LinearProgram.{linear_of}
 use Rattle.dual_simplex.specs.Step.{step_of}
 use Rattle.dual_simplex.proofs.SizeLemmas.{second_round_more, second_round_end, second_round_past}
 use Rattle.dual_simplex.proofs.flow_sizes.check_sizes.Goals as goal

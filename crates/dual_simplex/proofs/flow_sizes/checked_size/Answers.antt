@@ -2,9 +2,9 @@ use Rattle.std.proofs.Common.{◌≡◌, sym, ap, SFits, pos, ◌+ℤ◌, ◌*�
 use Rattle.std.specs.Int.{w128}
 use Rattle.std.specs.Prelude.{slice_index_or}
 use Rattle.std.proofs.lemmas.Int.{to_z-of_z}
-use Rattle.exact_numbers.proofs.RangeLemmas.{fits_from_range}
-use Rattle.integer_laws.specs.Range.{InRange}
-use Rattle.flow_rules.specs.LinearProgram.{linear_of}
+use Rattle.flow_program.proofs.exact_numbers.Cited.{fits_from_range}
+use Rattle.flow_program.specs.integer_laws.Range.{InRange}
+use Rattle.flow_program.specs.flow_rules.LinearProgram.{linear_of}
 use Rattle.dual_simplex.proofs.SizeLemmas.{shift_out, above_out, total_out, size_found, steps_found}
 use Rattle.dual_simplex.proofs.flow_sizes.checked_size.Goals as goal
 

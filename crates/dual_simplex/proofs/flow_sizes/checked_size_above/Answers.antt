@@ -3,9 +3,9 @@ use Rattle.std.specs.Int.{w128}
 use Rattle.std.specs.Prelude.{int_div}
 use Rattle.std.specs.Option.{SomeIff}
 use Rattle.std.proofs.lemmas.Int.{to_z-of_z}
-use Rattle.exact_numbers.proofs.RangeLemmas.{fits_from_range}
-use Rattle.integer_laws.specs.Lowest.{IsLowest}
-use Rattle.integer_laws.specs.Range.{InRange}
+use Rattle.flow_program.proofs.exact_numbers.Cited.{fits_from_range}
+use Rattle.flow_program.specs.integer_laws.Lowest.{IsLowest}
+use Rattle.flow_program.specs.integer_laws.Range.{InRange}
 use Rattle.dual_simplex.specs.Rows.{table, basis}
 use Rattle.dual_simplex.specs.Choice.{columns_of}
 use Rattle.dual_simplex.proofs.SizeLemmas.{part_divides, above_found}

@@ -1,4 +1,4 @@
-use Rattle.flow_rules.specs.LinearProgram.{linear_of}
+use Rattle.flow_program.specs.flow_rules.LinearProgram.{linear_of}
 use Rattle.dual_simplex.proofs.SizeLemmas.{ArePut}
 use Rattle.dual_simplex.proofs.flow_sizes.put_sizes.Given as goal
 

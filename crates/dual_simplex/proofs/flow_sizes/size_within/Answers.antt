@@ -1,8 +1,8 @@
 use Rattle.std.proofs.Common.{SFits}
 use Rattle.std.specs.Int.{w128}
 use Rattle.std.proofs.lemmas.Int.{to_z-of_z}
-use Rattle.exact_numbers.proofs.RangeLemmas.{fits_from_range}
-use Rattle.flow_rules.specs.LinearProgram.{linear_of}
+use Rattle.flow_program.proofs.exact_numbers.Cited.{fits_from_range}
+use Rattle.flow_program.specs.flow_rules.LinearProgram.{linear_of}
 use Rattle.dual_simplex.specs.Step.{step_of}
 use Rattle.dual_simplex.proofs.ReadingLemmas.{reading_of}
 use Rattle.dual_simplex.proofs.SizeLemmas.{never_past}

@@ -2,9 +2,9 @@ use Rattle.std.proofs.Common.{◌*ℤ◌, SFits}
 use Rattle.std.specs.Int.{w128}
 use Rattle.std.specs.Option.{SomeIff}
 use Rattle.std.proofs.lemmas.Int.{to_z-of_z}
-use Rattle.integer_laws.specs.Lowest.{IsLowest}
-use Rattle.integer_laws.specs.Range.{InRange}
-use Rattle.exact_numbers.proofs.RangeLemmas.{fits_from_range}
+use Rattle.flow_program.specs.integer_laws.Lowest.{IsLowest}
+use Rattle.flow_program.specs.integer_laws.Range.{InRange}
+use Rattle.flow_program.proofs.exact_numbers.Cited.{fits_from_range}
 use Rattle.dual_simplex.proofs.LcmLemmas.{lcm_found, found_positive, lcm_missed}
 use Rattle.dual_simplex.proofs.multiple.checked_lcm.Goals as goal
 

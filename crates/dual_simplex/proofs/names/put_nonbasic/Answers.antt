@@ -1,8 +1,8 @@
 use Rattle.std.proofs.Common.{◌++◌, ◌∙◌, [], ◌∷◌, ap, cond, sym, arith}
 use Rattle.std.specs.Prelude.{List}
-use Rattle.flow_rules.specs.declared.place.Column.{Column}
+use Rattle.flow_program.specs.flow_rules.declared.place.Column.{Column}
 use Rattle.dual_simplex.specs.Rows.{basis}
-use Rattle.flow_rules.specs.Named.{column_named}
+use Rattle.flow_program.specs.flow_rules.Named.{column_named}
 use Rattle.dual_simplex.proofs.NumberLemmas.{outside_more}
 use Rattle.dual_simplex.proofs.names.put_nonbasic.Goals as goal
 

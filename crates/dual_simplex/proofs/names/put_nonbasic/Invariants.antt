@@ -1,10 +1,10 @@
 use Rattle.std.specs.Prelude.{ℕ, ◌≡◌, ◌≤◌, not, List, length, map, take}
 use Rattle.std.specs.List.{filter, range_with_len}
-use Rattle.flow_rules.specs.declared.place.Column.{Column}
-use Rattle.flow_rules.specs.Program.{Program}
-use Rattle.flow_rules.specs.Columns.{Basis}
+use Rattle.flow_program.specs.flow_rules.declared.place.Column.{Column}
+use Rattle.flow_program.specs.flow_rules.Program.{Program}
+use Rattle.flow_program.specs.flow_rules.Columns.{Basis}
 use Rattle.dual_simplex.specs.Rows.{basis}
-use Rattle.flow_rules.specs.Named.{column_named}
+use Rattle.flow_program.specs.flow_rules.Named.{column_named}
 use Rattle.dual_simplex.proofs.names.put_nonbasic.Given as goal
 
 -- the first `count` are the columns before k that are not in the basis

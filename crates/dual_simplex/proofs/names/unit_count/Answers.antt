@@ -1,5 +1,5 @@
 use Rattle.std.proofs.Common.{◌≤◌, ℕ, List, length, subst, sym, arith}
-use Rattle.number_sets.proofs.SetLemmas.{length_below}
+use Rattle.flow_program.proofs.number_sets.Cited.{length_below}
 use Rattle.dual_simplex.proofs.names.unit_count.Goals as goal
 
 pub returns-clause-few : goal.returns-clause-few

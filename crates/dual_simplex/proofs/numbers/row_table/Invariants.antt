@@ -1,4 +1,4 @@
-use Rattle.number_sets.specs.Sets.{IsSet}
+use Rattle.flow_program.specs.number_sets.Sets.{IsSet}
 use Rattle.dual_simplex.proofs.NumberLemmas.{IsFilled}
 use Rattle.dual_simplex.proofs.numbers.row_table.Given as goal
 

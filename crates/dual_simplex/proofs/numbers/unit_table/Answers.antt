@@ -1,5 +1,5 @@
 use Rattle.std.proofs.Common.{arith}
-use Rattle.flow_program.proofs.WalkLemmas.{next_of, IsNext}
+use Rattle.flow_program.proofs.Cited.{next_of, IsNext}
 use Rattle.dual_simplex.proofs.NumberLemmas.{place_below, filled_more}
 use Rattle.dual_simplex.proofs.numbers.unit_table.Goals as goal
 

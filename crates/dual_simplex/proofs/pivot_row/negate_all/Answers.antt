@@ -5,7 +5,7 @@ use Rattle.std.proofs.lemmas.Int.{to_z-of_z}
 use Rattle.std.proofs.lemmas.List.{get_or_default}
 use Rattle.std.proofs.lemmas.List.Edits.{map_over_more}
 use Rattle.std.proofs.lemmas.List.Elements.{All-set}
-use Rattle.integer_laws.specs.Range.{InRange}
+use Rattle.flow_program.specs.integer_laws.Range.{InRange}
 use Rattle.dual_simplex.proofs.pivot_row.negate_all.Goals as goal
 
 pub loop-k-preserved : goal.loop-k-preserved

@@ -1,6 +1,6 @@
 use Rattle.std.proofs.Common.{ℕ, ◌≡◌, ◌++◌, List, take, drop, map}
 use Rattle.std.specs.Prelude.{ℤ, neg_ℤ}
-use Rattle.integer_laws.specs.Range.{AllInRange}
+use Rattle.flow_program.specs.integer_laws.Range.{AllInRange}
 use Rattle.dual_simplex.proofs.pivot_row.negate_all.Given as goal
 
 pub record IsNegated (old new : List ℤ) (k : ℕ) : Type 0 where

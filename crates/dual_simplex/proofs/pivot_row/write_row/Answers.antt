@@ -1,6 +1,6 @@
 use Rattle.std.proofs.Common.{rules, ◌≡◌, ◌+◌, ◌-◌, ◌*◌, ℕ, ℤ, List, arith, sym, ap, ◌∙◌, subst}
 use Rattle.std.proofs.Common.{length}
-use Rattle.integer_laws.specs.Range.{AllInRange}
+use Rattle.flow_program.specs.integer_laws.Range.{AllInRange}
 use Rattle.dual_simplex.proofs.BlockLemmas.{other_row, all_kept}
 use Rattle.dual_simplex.proofs.pivot_row.write_row.Goals as goal
 

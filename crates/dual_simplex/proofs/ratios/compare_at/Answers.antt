@@ -2,7 +2,7 @@ use Rattle.std.proofs.Common.{◌≡◌, ℤ, suc, ◌-◌, ◌*ℤ◌, neg_ℤ,
 use Rattle.std.specs.Ordering.{int_cmp}
 use Rattle.std.specs.Int.{w128}
 use Rattle.std.proofs.lemmas.Int.{to_z-of_z}
-use Rattle.exact_numbers.proofs.RangeLemmas.{fits_from_range}
+use Rattle.flow_program.proofs.exact_numbers.Cited.{fits_from_range}
 use Rattle.dual_simplex.specs.Rows.{basis}
 use Rattle.dual_simplex.specs.Candidates.{vector}
 use Rattle.dual_simplex.proofs.RatioLemmas.{vector_basic}

@@ -1,7 +1,7 @@
 use Rattle.std.proofs.Common.{◌≡◌, ◌*ℤ◌, ◌∙◌}
 use Rattle.std.specs.Ordering.{int_cmp}
 use Rattle.std.proofs.lemmas.Int.{to_z-of_z}
-use Rattle.integer_laws.specs.Lowest.{IsLowest}
+use Rattle.flow_program.specs.integer_laws.Lowest.{IsLowest}
 use Rattle.dual_simplex.proofs.RatioLemmas.{compared_lowest}
 use Rattle.dual_simplex.proofs.ratios.compare_fractions.Goals as goal
 

@@ -1,9 +1,9 @@
 use Rattle.std.proofs.Common.{◌≡◌, length, SFits, rules}
 use Rattle.std.specs.Int.{w128}
 use Rattle.std.proofs.lemmas.Int.{to_z-of_z}
-use Rattle.exact_numbers.proofs.RangeLemmas.{fits_from_range}
-use Rattle.flow_rules.specs.LinearProgram.{linear_of}
-use Rattle.flow_rules.specs.ReadFlows.{rounds}
+use Rattle.flow_program.proofs.exact_numbers.Cited.{fits_from_range}
+use Rattle.flow_program.specs.flow_rules.LinearProgram.{linear_of}
+use Rattle.flow_program.specs.flow_rules.ReadFlows.{rounds}
 use Rattle.dual_simplex.specs.Rows.{basis}
 use Rattle.dual_simplex.specs.Reading.{formed_of, second_round}
 use Rattle.dual_simplex.specs.Step.{step_of}

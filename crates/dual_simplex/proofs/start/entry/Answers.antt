@@ -1,8 +1,8 @@
 use Rattle.std.proofs.Common.{SFits, rules, ◌≡◌, ◌≤◌, ◌+◌, arith, sym, ap, subst, ◌∙◌, ℕ, ℤ, length}
 use Rattle.std.specs.Int.{w128}
 use Rattle.std.proofs.lemmas.Int.{to_z-of_z}
-use Rattle.flow_rules.specs.LinearProgram.{linear_of}
-use Rattle.flow_rules.specs.Columns.{right_at}
+use Rattle.flow_program.specs.flow_rules.LinearProgram.{linear_of}
+use Rattle.flow_program.specs.flow_rules.Columns.{right_at}
 use Rattle.dual_simplex.proofs.RowStartLemmas.{entry_right}
 use Rattle.dual_simplex.proofs.start.entry.Goals as goal
 

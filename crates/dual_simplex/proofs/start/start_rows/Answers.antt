@@ -1,5 +1,5 @@
 use Rattle.std.proofs.Common.{◌≡◌, ◌+◌, ℕ, ℤ}
-use Rattle.flow_rules.specs.LinearProgram.{linear_of}
+use Rattle.flow_program.specs.flow_rules.LinearProgram.{linear_of}
 use Rattle.dual_simplex.proofs.RowStartLemmas.{row_more}
 use Rattle.dual_simplex.proofs.start.start_rows.Goals as goal
 

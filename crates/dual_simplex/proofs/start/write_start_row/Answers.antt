@@ -1,7 +1,7 @@
 use Rattle.std.proofs.Common.{SFits, rules, ◌≡◌, ◌<◌, ◌+◌, arith, ℕ, ℤ, length}
 use Rattle.std.specs.Int.{w128}
 use Rattle.std.proofs.lemmas.Int.{to_z-of_z}
-use Rattle.flow_rules.specs.LinearProgram.{linear_of}
+use Rattle.flow_program.specs.flow_rules.LinearProgram.{linear_of}
 use Rattle.dual_simplex.proofs.RowStartLemmas.{written_more}
 use Rattle.dual_simplex.proofs.start.write_start_row.Goals as goal
 

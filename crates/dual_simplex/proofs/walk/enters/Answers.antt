@@ -1,5 +1,5 @@
 use Rattle.std.proofs.Common.{◌<◌, ℕ, subst, sym}
-use Rattle.flow_rules.specs.LinearProgram.{linear_of}
+use Rattle.flow_program.specs.flow_rules.LinearProgram.{linear_of}
 use Rattle.dual_simplex.proofs.OptionLemmas.{map_some, map_none}
 use Rattle.dual_simplex.proofs.SecondLemmas.{columns_are}
 use Rattle.dual_simplex.proofs.walk.enters.Goals as goal

@@ -1,4 +1,4 @@
-use Rattle.flow_rules.specs.LinearProgram.{linear_of}
+use Rattle.flow_program.specs.flow_rules.LinearProgram.{linear_of}
 use Rattle.dual_simplex.proofs.OptionLemmas.{map_some}
 use Rattle.dual_simplex.proofs.SecondLemmas.{dual_feasible}
 use Rattle.dual_simplex.proofs.walk.leaves.Goals as goal

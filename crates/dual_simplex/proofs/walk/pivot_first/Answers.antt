@@ -1,7 +1,7 @@
 use Rattle.std.proofs.Common.{◌≡◌, ◌+◌, ℕ, pos, ap, sym, ◌∙◌, subst}
 use Rattle.std.specs.Prelude.{◌<ℤ◌}
-use Rattle.flow_rules.specs.LinearProgram.{linear_of}
-use Rattle.flow_rules.specs.Columns.{s_at, scale_at}
+use Rattle.flow_program.specs.flow_rules.LinearProgram.{linear_of}
+use Rattle.flow_program.specs.flow_rules.Columns.{s_at, scale_at}
 use Rattle.dual_simplex.specs.Rows.{table}
 use Rattle.dual_simplex.proofs.FirstLemmas.{scale_is, first_done, first_past}
 use Rattle.dual_simplex.proofs.walk.pivot_first.Goals as goal

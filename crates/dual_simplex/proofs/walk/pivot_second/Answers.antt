@@ -1,4 +1,4 @@
-use Rattle.flow_rules.specs.LinearProgram.{linear_of}
+use Rattle.flow_program.specs.flow_rules.LinearProgram.{linear_of}
 use Rattle.dual_simplex.proofs.SecondLemmas.{rank_bounded, second_done, second_rises, second_past}
 use Rattle.dual_simplex.proofs.walk.pivot_second.Goals as goal
 

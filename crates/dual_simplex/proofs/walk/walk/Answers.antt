@@ -1,5 +1,5 @@
 use Rattle.std.proofs.Common.{sym}
-use Rattle.flow_rules.specs.LinearProgram.{linear_of}
+use Rattle.flow_program.specs.flow_rules.LinearProgram.{linear_of}
 use Rattle.dual_simplex.proofs.StartLemmas.{starts}
 use Rattle.dual_simplex.proofs.walk.walk.Goals as goal
 

@@ -1,5 +1,5 @@
 use Rattle.std.specs.Prelude.{ℕ}
-use Rattle.flow_rules.specs.LinearProgram.{LinearProgram, linear_of}
+use Rattle.flow_program.specs.flow_rules.LinearProgram.{LinearProgram, linear_of}
 use Rattle.dual_simplex.specs.Rows.{Rows}
 use Rattle.dual_simplex.specs.Walk.{IsInFirst, IsSameRoom}
 use Rattle.dual_simplex.proofs.walk.walk_first.Given as goal

@@ -1,5 +1,5 @@
 use Rattle.std.specs.Prelude.{◌-◌}
-use Rattle.flow_rules.specs.LinearProgram.{LinearProgram, linear_of}
+use Rattle.flow_program.specs.flow_rules.LinearProgram.{LinearProgram, linear_of}
 use Rattle.dual_simplex.specs.Rows.{Rows}
 use Rattle.dual_simplex.specs.Walk.{IsInSecond, IsSameRoom}
 use Rattle.dual_simplex.specs.Measure.{rank_of, ranks}

@@ -1,5 +1,5 @@
 use Rattle.std.proofs.Common.{sym, subst}
-use Rattle.problem_rules.specs.Problem.{Problem}
+use Rattle.edit_rules.specs.problem_rules.Problem.{Problem}
 use Rattle.edit_laws.proofs.ValidLemmas.{well_from_valid}
 use Rattle.edit_laws.specs.MigrationLaws.{IsMigrated}
 use Rattle.edit_laws.proofs.MigrationUnitLemmas.{pays_once, migration_leads}

@@ -1,7 +1,7 @@
 use Rattle.std.proofs.Common.{◌≡◌, ◌∷◌, [], ℕ, List, Err, ap, refl, ◌∙◌, rules}
 use Rattle.std.proofs.lemmas.Result.{err_from_is_err_and}
-use Rattle.edit_rules.specs.declared.EditKind.TheVariants.{BadLine}
-use Rattle.edit_rules.specs.Read.{amount_read}
+use Rattle.text_lines.specs.edit_rules.declared.EditKind.TheVariants.{BadLine}
+use Rattle.text_lines.specs.edit_rules.Read.{amount_read}
 use Rattle.edit_scripts.proofs.TokenCounts.{two, not_two, refused}
 use Rattle.edit_scripts.proofs.fields.amount.Goals as goal
 

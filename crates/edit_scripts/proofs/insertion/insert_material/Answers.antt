@@ -1,6 +1,6 @@
 use Rattle.std.proofs.Common.{◌∷◌, [], ap, ◌∙◌, rules}
 use Rattle.std.proofs.lemmas.Result.{err_from_is_err_and}
-use Rattle.edit_rules.specs.Read.{material_read}
+use Rattle.text_lines.specs.edit_rules.Read.{material_read}
 use Rattle.edit_scripts.proofs.TokenCounts.{six, not_material, refused}
 use Rattle.edit_scripts.proofs.insertion.insert_material.Goals as goal
 

@@ -1,8 +1,8 @@
 use Rattle.std.proofs.Common.{◌≡◌, ◌∷◌, [], ℕ, List, Err, ap, refl, ◌∙◌, rules}
 use Rattle.std.proofs.lemmas.Result.{err_from_is_err_and}
-use Rattle.edit_rules.specs.declared.EditKind.TheVariants.{BadLine}
-use Rattle.edit_rules.specs.Read.{edit_by, kind_read}
-use Rattle.edit_rules.specs.Edit as edit
+use Rattle.text_lines.specs.edit_rules.declared.EditKind.TheVariants.{BadLine}
+use Rattle.text_lines.specs.edit_rules.Read.{edit_by, kind_read}
+use Rattle.text_lines.specs.edit_rules.Edit as edit
 use Rattle.edit_scripts.proofs.TokenCounts.{two, not_two, refused}
 use Rattle.edit_scripts.proofs.line.kind.Goals as goal
 

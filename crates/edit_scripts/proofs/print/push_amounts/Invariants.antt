@@ -1,5 +1,5 @@
 use Rattle.std.proofs.Common.{◌≡◌, map, drop, string_bytes}
-use Rattle.text_rules.specs.Printed.{amount_bytes}
+use Rattle.text_lines.specs.text_rules.Printed.{amount_bytes}
 use Rattle.edit_scripts.specs.Printing.{appended}
 use Rattle.edit_scripts.proofs.print.push_amounts.Given as goal
 

@@ -1,5 +1,5 @@
 use Rattle.std.proofs.Common.{◌≡◌, drop, string_bytes}
-use Rattle.edit_rules.specs.Printed.{side_tokens}
+use Rattle.text_lines.specs.edit_rules.Printed.{side_tokens}
 use Rattle.edit_scripts.specs.Printing.{appended, further_terms}
 use Rattle.edit_scripts.proofs.print.push_side.Given as goal
 

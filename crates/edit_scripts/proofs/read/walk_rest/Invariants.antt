@@ -1,5 +1,5 @@
 use Rattle.std.proofs.Common.{◌≡◌, length}
-use Rattle.edit_rules.specs.Read.{lines_read}
+use Rattle.text_lines.specs.edit_rules.Read.{lines_read}
 use Rattle.edit_scripts.specs.Walk.{read_on}
 use Rattle.edit_scripts.proofs.read.walk_rest.Given as goal
 

@@ -1,5 +1,5 @@
 use Rattle.std.proofs.Common.{◌≡◌, ◌++◌, ◌+◌, map, drop}
-use Rattle.edit_rules.specs.Formed.{lines_from}
+use Rattle.text_lines.specs.edit_rules.Formed.{lines_from}
 use Rattle.edit_scripts.specs.View.{edit_of}
 use Rattle.edit_scripts.proofs.script.lines_of.Given as goal
 

@@ -2,7 +2,7 @@ use Rattle.std.proofs.Common.{List, ap, sym, ◌∙◌}
 use Rattle.text_lines.specs.Once.{once}
 use Rattle.text_lines.specs.Terms.{terms_view}
 use Rattle.text_lines.specs.declared.term.Term.{Term}
-use Rattle.edit_rules.specs.Term.{materials_of}
+use Rattle.text_lines.specs.edit_rules.Term.{materials_of}
 use Rattle.edit_scripts.proofs.BothSides.{double_input, double_output}
 use Rattle.edit_scripts.proofs.sides.are_bad_sides.Goals as goal
 

@@ -1,6 +1,6 @@
 use Rattle.std.proofs.Common.{◌≡◌, map, take}
 use Rattle.text_lines.specs.Terms.{terms_view}
-use Rattle.edit_rules.specs.Term.{term_read}
+use Rattle.text_lines.specs.edit_rules.Term.{term_read}
 use Rattle.edit_scripts.proofs.sides.named_terms.Given as goal
 
 abbrev pub invariant-naming : goal.invariant-naming

@@ -1,8 +1,8 @@
 use Rattle.std.proofs.Common.{◌≡◌, drop}
 use Rattle.std.specs.List.{list_any}
-use Rattle.problem_rules.specs.Names.{is_among}
+use Rattle.text_lines.specs.problem_rules.Names.{is_among}
 use Rattle.text_lines.specs.Terms.{terms_view}
-use Rattle.edit_rules.specs.Term.{materials_of}
+use Rattle.text_lines.specs.edit_rules.Term.{materials_of}
 use Rattle.edit_scripts.proofs.sides.some_among.Given as goal
 
 abbrev pub invariant-looking : goal.invariant-looking

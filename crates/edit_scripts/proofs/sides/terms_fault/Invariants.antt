@@ -1,7 +1,7 @@
 use Rattle.std.proofs.Common.{◌≡◌, drop}
 use Rattle.text_lines.specs.Terms.{terms_view}
-use Rattle.edit_rules.specs.ScriptFault.{lesser}
-use Rattle.edit_rules.specs.Term.{terms_fault}
+use Rattle.text_lines.specs.edit_rules.ScriptFault.{lesser}
+use Rattle.text_lines.specs.edit_rules.Term.{terms_fault}
 use Rattle.edit_scripts.proofs.sides.terms_fault.Given as goal
 
 abbrev pub invariant-looking : goal.invariant-looking

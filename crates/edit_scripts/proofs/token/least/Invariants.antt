@@ -1,5 +1,5 @@
 use Rattle.std.proofs.Common.{◌≡◌, drop}
-use Rattle.edit_rules.specs.ScriptFault.{lesser, least}
+use Rattle.text_lines.specs.edit_rules.ScriptFault.{lesser, least}
 use Rattle.edit_scripts.proofs.token.least.Given as goal
 
 -- the least so far and that of the rest

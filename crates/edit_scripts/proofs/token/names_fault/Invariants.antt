@@ -1,6 +1,6 @@
 use Rattle.std.proofs.Common.{◌≡◌, drop}
 use Rattle.text_lines.specs.View.{texts}
-use Rattle.edit_rules.specs.ScriptFault.{lesser, names_fault}
+use Rattle.text_lines.specs.edit_rules.ScriptFault.{lesser, names_fault}
 use Rattle.edit_scripts.proofs.token.names_fault.Given as goal
 
 abbrev pub invariant-looking : goal.invariant-looking

@@ -1,7 +1,7 @@
 use Rattle.std.proofs.Common.{SFits}
 use Rattle.std.specs.Int.{w128}
 use Rattle.std.proofs.lemmas.Int.{to_z-of_z}
-use Rattle.integer_laws.proofs.LowestTerms.{gcd_positive}
+use Rattle.integer_laws.proofs.Cited.{gcd_positive}
 use Rattle.integer_laws.specs.Lowest.{IsLowest}
 use Rattle.exact_numbers.proofs.RangeLemmas.{fits_from_range}
 use Rattle.exact_numbers.proofs.LowestLemmas.{is_lowest, lowest_coprime, lowest_positive}

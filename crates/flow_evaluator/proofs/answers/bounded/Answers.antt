@@ -1,10 +1,10 @@
 use Rattle.std.proofs.Common.{◌≡◌, None, sym, subst}
-use Rattle.pgraph.specs.View.{node_of}
-use Rattle.flow_rules.specs.Net.{net_of}
-use Rattle.flow_rules.specs.Program.{Program, program_of}
+use Rattle.dual_simplex.specs.pgraph.View.{node_of}
+use Rattle.dual_simplex.specs.flow_rules.Net.{net_of}
+use Rattle.dual_simplex.specs.flow_rules.Program.{Program, program_of}
 use Rattle.dual_simplex.specs.Bench.{IsLeastOf}
 use Rattle.node_evaluation.specs.Evaluated.{IsBoundOf}
-use Rattle.tree_rules.specs.Past.{IsPastAt}
+use Rattle.node_evaluation.specs.tree_rules.Past.{IsPastAt}
 use Rattle.flow_evaluator.proofs.FlowLemmas.{bound_is}
 use Rattle.flow_evaluator.proofs.KnownLemmas.{stopped_is}
 use Rattle.flow_evaluator.proofs.answers.bounded.Goals as goal

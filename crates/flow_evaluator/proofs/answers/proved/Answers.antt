@@ -1,6 +1,6 @@
 use Rattle.std.proofs.Common.{◌≡◌, Some, None, sym, subst}
-use Rattle.pgraph.specs.View.{node_of}
-use Rattle.tree_rules.specs.Leaf.{IsBounded}
+use Rattle.dual_simplex.specs.pgraph.View.{node_of}
+use Rattle.node_evaluation.specs.tree_rules.Leaf.{IsBounded}
 use Rattle.node_evaluation.specs.declared.evaluator.Bound.{Bound}
 use Rattle.flow_evaluator.proofs.FlowLemmas.{bound_is, worth_proved}
 use Rattle.flow_evaluator.proofs.KnownLemmas.{unproved_is}

@@ -1,8 +1,8 @@
 use Rattle.std.proofs.Common.{◌≡◌, ℤ, List, refl, sym, ◌∙◌, subst, rules}
-use Rattle.pgraph.specs.View.{node_of}
-use Rattle.flow_rules.specs.Net.{net_of}
-use Rattle.flow_rules.specs.Program.{program_of}
-use Rattle.tree_rules.specs.Leaf.{IsRefuted}
+use Rattle.dual_simplex.specs.pgraph.View.{node_of}
+use Rattle.dual_simplex.specs.flow_rules.Net.{net_of}
+use Rattle.dual_simplex.specs.flow_rules.Program.{program_of}
+use Rattle.node_evaluation.specs.tree_rules.Leaf.{IsRefuted}
 use Rattle.flow_evaluator.proofs.KnownLemmas.{stopped_is}
 use Rattle.flow_evaluator.proofs.answers.refuted.Goals as goal
 

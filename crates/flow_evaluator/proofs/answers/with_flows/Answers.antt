@@ -1,18 +1,18 @@
 use Rattle.std.proofs.Common.{◌≡◌, ℕ, true, List, length, None, refl, sym, ap, ◌∙◌, subst, SFits}
 use Rattle.std.specs.Int.{w128}
 use Rattle.std.proofs.lemmas.Int.{to_z-of_z}
-use Rattle.exact_numbers.proofs.RangeLemmas.{fits_from_range}
-use Rattle.pgraph.specs.View.{node_of}
-use Rattle.flow_rules.specs.Net.{net_of}
-use Rattle.flow_rules.specs.Program.{Program, program_of}
+use Rattle.dual_simplex.proofs.exact_numbers.Cited.{fits_from_range}
+use Rattle.dual_simplex.specs.pgraph.View.{node_of}
+use Rattle.dual_simplex.specs.flow_rules.Net.{net_of}
+use Rattle.dual_simplex.specs.flow_rules.Program.{Program, program_of}
 use Rattle.dual_simplex.specs.Bench.{IsLeastOf, AreFlowsOf}
 use Rattle.dual_simplex.specs.PastPlace.{IsPastFlowOf}
-use Rattle.tree_rules.specs.Leaf.{IsFormed}
+use Rattle.node_evaluation.specs.tree_rules.Leaf.{IsFormed}
 use Rattle.node_evaluation.specs.declared.evaluator.Bound.{Bound}
-use Rattle.tree_rules.specs.Claim.{Network}
-use Rattle.tree_rules.specs.Costs.{IsNoMore}
+use Rattle.node_evaluation.specs.tree_rules.Claim.{Network}
+use Rattle.node_evaluation.specs.tree_rules.Costs.{IsNoMore}
 use Rattle.node_evaluation.specs.Evaluated.{cost_over, cost_in, IsBoundOf, IsNetworkOf, HasUnits}
-use Rattle.tree_rules.specs.Past.{IsPastAt}
+use Rattle.node_evaluation.specs.tree_rules.Past.{IsPastAt}
 use Rattle.flow_evaluator.proofs.FlowLemmas.{IsValueAt, bound_is, network_with, network_is}
 use Rattle.flow_evaluator.proofs.FlowLemmas.{kept_value, kept_steps, is_split, units_inside}
 use Rattle.flow_evaluator.proofs.KnownLemmas.{place_known, kept_known, stopped_is}

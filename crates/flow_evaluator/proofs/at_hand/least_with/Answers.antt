@@ -1,7 +1,7 @@
 use Rattle.std.proofs.Common.{subst}
-use Rattle.number_sets.specs.Sets.{has, IsSet, IsWithin}
-use Rattle.pgraph.specs.Tables.{shape}
-use Rattle.flow_program.proofs.WalkLemmas.{next_of}
+use Rattle.dual_simplex.specs.number_sets.Sets.{has, IsSet, IsWithin}
+use Rattle.dual_simplex.specs.pgraph.Tables.{shape}
+use Rattle.dual_simplex.proofs.flow_program.Cited.{next_of}
 use Rattle.flow_evaluator.proofs.HandLemmas.{more_gone, fewer_out}
 use Rattle.flow_evaluator.proofs.at_hand.least_with.Goals as goal
 

@@ -1,6 +1,6 @@
-use Rattle.number_sets.specs.Sets.{has, IsSet, IsWithin}
-use Rattle.pns_rules.specs.Structure.{IsBetween}
-use Rattle.pgraph.specs.Tables.{shape}
+use Rattle.dual_simplex.specs.number_sets.Sets.{has, IsSet, IsWithin}
+use Rattle.dual_simplex.specs.pns_rules.Structure.{IsBetween}
+use Rattle.dual_simplex.specs.pgraph.Tables.{shape}
 use Rattle.flow_evaluator.proofs.at_hand.least_with.Given as goal
 
 abbrev pub invariant-loop-u : goal.invariant-loop-u

@@ -1,5 +1,5 @@
-use Rattle.number_sets.specs.Sets.{has}
-use Rattle.pgraph.specs.Tables.{shape}
+use Rattle.dual_simplex.specs.number_sets.Sets.{has}
+use Rattle.dual_simplex.specs.pgraph.Tables.{shape}
 use Rattle.flow_evaluator.proofs.HandLemmas.{between_of}
 use Rattle.flow_evaluator.proofs.at_hand.structure_of.Goals as goal
 

@@ -1,6 +1,6 @@
 use Rattle.std.proofs.Common.{◌≡◌, ◌<◌, sym, subst}
 use Rattle.flow_evaluator.proofs.HandLemmas.{in_use_known, in_use_inside, in_use_outside}
-use Rattle.pgraph.specs.Tables.{shape}
+use Rattle.dual_simplex.specs.pgraph.Tables.{shape}
 use Rattle.flow_evaluator.proofs.at_hand.units_in_use.Goals as goal
 
 pub returns-clause-known : goal.returns-clause-known

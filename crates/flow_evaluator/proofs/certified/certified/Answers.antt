@@ -1,11 +1,11 @@
 use Rattle.std.proofs.Common.{IfSome, sym, subst, ap, ◌∙◌}
-use Rattle.problem_rules.specs.Problem.{Problem}
-use Rattle.number_sets.specs.Sets.{has}
-use Rattle.pns_rules.specs.Shape.{Shape, shape_of}
-use Rattle.pns_rules.specs.Structure.{IsAllowed}
-use Rattle.pns_rules.specs.Nodes.{Node}
-use Rattle.pns_rules.specs.Ends.{IsSound, IsDecided}
-use Rattle.tree_rules.specs.LeastFlows.{decided}
+use Rattle.dual_simplex.specs.problem_rules.Problem.{Problem}
+use Rattle.dual_simplex.specs.number_sets.Sets.{has}
+use Rattle.dual_simplex.specs.pns_rules.Shape.{Shape, shape_of}
+use Rattle.dual_simplex.specs.pns_rules.Structure.{IsAllowed}
+use Rattle.dual_simplex.specs.pns_rules.Nodes.{Node}
+use Rattle.dual_simplex.specs.pns_rules.Ends.{IsSound, IsDecided}
+use Rattle.node_evaluation.specs.tree_rules.LeastFlows.{decided}
 use Rattle.flow_evaluator.specs.Answers.{AnswersFor}
 use Rattle.flow_evaluator.proofs.certified.certified.Goals as goal
 

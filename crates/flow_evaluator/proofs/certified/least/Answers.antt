@@ -1,8 +1,8 @@
 use Rattle.std.proofs.Common.{Some, subst}
-use Rattle.exact_numbers.specs.declared.number.Mixed.{Mixed}
-use Rattle.tree_rules.specs.Leaf.{IsBounded}
+use Rattle.dual_simplex.specs.exact_numbers.declared.number.Mixed.{Mixed}
+use Rattle.node_evaluation.specs.tree_rules.Leaf.{IsBounded}
 use Rattle.certified_bounds.specs.Certified.{cost_over}
-use Rattle.tree_rules.specs.LeastFlows.{decided}
+use Rattle.node_evaluation.specs.tree_rules.LeastFlows.{decided}
 use Rattle.flow_evaluator.proofs.CertifiedLemmas.{least_for}
 use Rattle.flow_evaluator.proofs.certified.least.Goals as goal
 

@@ -1,8 +1,8 @@
 use Rattle.std.proofs.Common.{List, sym, subst}
-use Rattle.flow_rules.specs.Cover as rules
-use Rattle.pgraph.specs.View.{node_of}
-use Rattle.pgraph.specs.declared.cover.Cover.{Cover}
-use Rattle.pgraph.specs.CoversView.{covers_of}
+use Rattle.dual_simplex.specs.flow_rules.Cover as rules
+use Rattle.dual_simplex.specs.pgraph.View.{node_of}
+use Rattle.dual_simplex.specs.pgraph.declared.cover.Cover.{Cover}
+use Rattle.dual_simplex.specs.pgraph.CoversView.{covers_of}
 use Rattle.node_evaluation.specs.Evaluated.{cost_in, IsChargeOf}
 use Rattle.flow_evaluator.specs.Charging.{ReachesWith}
 use Rattle.flow_evaluator.proofs.ChargingLemmas.{kept_all, charge_is}

@@ -1,5 +1,5 @@
-use Rattle.pgraph.specs.View.{node_of}
-use Rattle.pgraph.specs.CoversView.{covers_of}
+use Rattle.dual_simplex.specs.pgraph.View.{node_of}
+use Rattle.dual_simplex.specs.pgraph.CoversView.{covers_of}
 use Rattle.flow_evaluator.specs.Charging.{AreFit}
 use Rattle.flow_evaluator.proofs.charging.fit_covers.Given as goal
 

@@ -1,12 +1,12 @@
 use Rattle.std.proofs.Common.{◌≤◌, pos, ◌≤ℤ◌, sym, subst, rules, SFits}
 use Rattle.std.specs.Int.{w128}
 use Rattle.std.proofs.lemmas.Int.{to_z-of_z}
-use Rattle.integer_laws.specs.Range.{InRange}
-use Rattle.pns_rules.specs.Shape.{Shape}
-use Rattle.pgraph.specs.Tables.{shape}
-use Rattle.pgraph.specs.View.{node_of}
-use Rattle.flow_rules.specs.Cover.{IsCover, Covers}
-use Rattle.pgraph.specs.CoversView.{cover_of}
+use Rattle.dual_simplex.specs.integer_laws.Range.{InRange}
+use Rattle.dual_simplex.specs.pns_rules.Shape.{Shape}
+use Rattle.dual_simplex.specs.pgraph.Tables.{shape}
+use Rattle.dual_simplex.specs.pgraph.View.{node_of}
+use Rattle.dual_simplex.specs.flow_rules.Cover.{IsCover, Covers}
+use Rattle.dual_simplex.specs.pgraph.CoversView.{cover_of}
 use Rattle.flow_evaluator.proofs.ChargingLemmas.{small_beside, fit_is}
 use Rattle.flow_evaluator.proofs.charging.is_fit.Goals as goal
 

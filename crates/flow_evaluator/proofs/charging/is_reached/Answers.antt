@@ -1,7 +1,7 @@
 use Rattle.std.proofs.Common.{◌∙◌, rules, to_z, of_z, SFits}
 use Rattle.std.specs.Int.{w128}
 use Rattle.std.proofs.lemmas.Int.{to_z-of_z}
-use Rattle.node_evaluation.proofs.ChildLemmas.{same_costs}
+use Rattle.node_evaluation.proofs.Cited.{same_costs}
 use Rattle.flow_evaluator.proofs.charging.is_reached.Goals as goal
 
 pub returns : goal.returns

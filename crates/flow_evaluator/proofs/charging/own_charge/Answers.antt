@@ -1,16 +1,16 @@
 use Rattle.std.proofs.Common.{◌≡◌, ◌∙◌, ap, subst, rules, SFits}
 use Rattle.std.specs.Int.{w128}
 use Rattle.std.proofs.lemmas.Int.{to_z-of_z}
-use Rattle.problem_rules.specs.Problem.{Problem}
-use Rattle.pgraph.specs.View.{node_of}
-use Rattle.flow_rules.specs.Net.{net_of, beside}
-use Rattle.flow_rules.specs.Relaxed.{rows}
-use Rattle.flow_rules.specs.Steps.{AreInRange}
-use Rattle.flow_rules.specs.ChargeFacts.{Facts, own_facts}
-use Rattle.flow_rules.specs.Charge.{charge}
-use Rattle.flow_rules.specs.ChargeSteps.{charge_steps}
-use Rattle.charges.specs.Known.{facts_of}
-use Rattle.pgraph.specs.CoversView.{covers_of}
+use Rattle.dual_simplex.specs.problem_rules.Problem.{Problem}
+use Rattle.dual_simplex.specs.pgraph.View.{node_of}
+use Rattle.dual_simplex.specs.flow_rules.Net.{net_of, beside}
+use Rattle.dual_simplex.specs.flow_rules.Relaxed.{rows}
+use Rattle.dual_simplex.specs.flow_rules.Steps.{AreInRange}
+use Rattle.dual_simplex.specs.flow_rules.ChargeFacts.{Facts, own_facts}
+use Rattle.dual_simplex.specs.flow_rules.Charge.{charge}
+use Rattle.dual_simplex.specs.flow_rules.ChargeSteps.{charge_steps}
+use Rattle.certified_bounds.specs.charges.Known.{facts_of}
+use Rattle.dual_simplex.specs.pgraph.CoversView.{covers_of}
 use Rattle.flow_evaluator.proofs.ChargingLemmas.{small_all}
 use Rattle.flow_evaluator.proofs.charging.own_charge.Goals as goal
 

@@ -2,10 +2,10 @@ use Rattle.std.proofs.Common.{◌≡◌, ◌∙◌, ℤ, ◌≤ℤ◌, pos, leng
 use Rattle.std.proofs.Common.{arith}
 use Rattle.std.specs.Int.{w128}
 use Rattle.std.proofs.lemmas.Int.{ints, to_z-of_z}
-use Rattle.pgraph.specs.View.{node_of}
-use Rattle.flow_rules.specs.Net.{net_of}
-use Rattle.flow_rules.specs.Relaxed.{rows}
-use Rattle.pgraph.specs.CoversView.{covers_of}
+use Rattle.dual_simplex.specs.pgraph.View.{node_of}
+use Rattle.dual_simplex.specs.flow_rules.Net.{net_of}
+use Rattle.dual_simplex.specs.flow_rules.Relaxed.{rows}
+use Rattle.dual_simplex.specs.pgraph.CoversView.{covers_of}
 use Rattle.node_evaluation.specs.Evaluated.{cost_in}
 use Rattle.flow_evaluator.specs.Charging.{IsOwnCharge}
 use Rattle.flow_evaluator.proofs.ChargingLemmas.{few_covers, reaches_with}

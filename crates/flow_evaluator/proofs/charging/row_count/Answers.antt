@@ -1,9 +1,9 @@
 use Rattle.std.proofs.Common.{◌∙◌, ℕ, List, length, ap}
-use Rattle.number_sets.specs.Sets.{listed}
-use Rattle.pns_rules.specs.Shape.{Shape}
-use Rattle.pns_rules.specs.Structure.{mats}
-use Rattle.pgraph.specs.View.{node_of}
-use Rattle.flow_rules.specs.Relaxed.{stays}
+use Rattle.dual_simplex.specs.number_sets.Sets.{listed}
+use Rattle.dual_simplex.specs.pns_rules.Shape.{Shape}
+use Rattle.dual_simplex.specs.pns_rules.Structure.{mats}
+use Rattle.dual_simplex.specs.pgraph.View.{node_of}
+use Rattle.dual_simplex.specs.flow_rules.Relaxed.{stays}
 use Rattle.flow_evaluator.proofs.charging.row_count.Goals as goal
 
 pub returns : goal.returns

@@ -1,14 +1,14 @@
 use Rattle.std.proofs.Common.{◌≡◌, ◌≤◌, length, refl, sym, subst, arith, rules}
-use Rattle.number_sets.proofs.SetLemmas.{length_listed}
-use Rattle.pns_rules.specs.Structure.{mats}
-use Rattle.problem_rules.specs.Problem.{Problem}
-use Rattle.pgraph.specs.View.{node_of}
-use Rattle.flow_rules.specs.Net.{net_of, beside}
-use Rattle.flow_rules.specs.Program.{Program, program_of}
-use Rattle.flow_rules.specs.Relaxed.{stays, units, rows}
+use Rattle.dual_simplex.proofs.number_sets.Cited.{length_listed}
+use Rattle.dual_simplex.specs.pns_rules.Structure.{mats}
+use Rattle.dual_simplex.specs.problem_rules.Problem.{Problem}
+use Rattle.dual_simplex.specs.pgraph.View.{node_of}
+use Rattle.dual_simplex.specs.flow_rules.Net.{net_of, beside}
+use Rattle.dual_simplex.specs.flow_rules.Program.{Program, program_of}
+use Rattle.dual_simplex.specs.flow_rules.Relaxed.{stays, units, rows}
 use Rattle.dual_simplex.specs.Bench.{HasRoom, IsNoneOf}
 use Rattle.dual_simplex.specs.PastPlace.{IsPastOf}
-use Rattle.tree_rules.specs.Past.{IsPastAt}
+use Rattle.node_evaluation.specs.tree_rules.Past.{IsPastAt}
 use Rattle.flow_evaluator.proofs.KnownLemmas.{place_known, kept_known, unproved_is}
 use Rattle.flow_evaluator.proofs.evaluator.prove_on.Goals as goal
 

@@ -1,11 +1,11 @@
 use Rattle.std.specs.Prelude.{pos, ◌≤ℤ◌}
 use Rattle.std.proofs.Common.{arith}
 use Rattle.std.proofs.lemmas.Int.{ints}
-use Rattle.number_sets.specs.Sets.{has}
-use Rattle.flow_rules.specs.Net.{net_of, beside}
-use Rattle.flow_rules.specs.Flows.{cost}
-use Rattle.flow_rules.specs.Relaxed.{bound}
-use Rattle.tree_rules.specs.LeastFlows.{decided, rows_of}
+use Rattle.dual_simplex.specs.number_sets.Sets.{has}
+use Rattle.dual_simplex.specs.flow_rules.Net.{net_of, beside}
+use Rattle.dual_simplex.specs.flow_rules.Flows.{cost}
+use Rattle.dual_simplex.specs.flow_rules.Relaxed.{bound}
+use Rattle.node_evaluation.specs.tree_rules.LeastFlows.{decided, rows_of}
 use Rattle.flow_evaluator.proofs.LeastLemmas.{least_cost}
 use Rattle.flow_evaluator.proofs.NodeLemmas.{is_between}
 use Rattle.flow_evaluator.proofs.laws.multipliers_prove.Goals as goal

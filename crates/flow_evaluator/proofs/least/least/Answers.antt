@@ -1,23 +1,23 @@
 use Rattle.std.proofs.Common.{◌≡◌, ℕ, ℤ, List, length, pos, sym, ap, ◌∙◌, subst, rules, SFits}
 use Rattle.std.specs.Int.{w128}
 use Rattle.std.proofs.lemmas.Int.{to_z-of_z}
-use Rattle.number_sets.specs.Sets.{has}
-use Rattle.integer_laws.specs.Range.{InRange, AllInRange}
-use Rattle.exact_numbers.proofs.RangeLemmas.{fits_from_range}
-use Rattle.problem_rules.specs.Problem.{Problem}
-use Rattle.flow_rules.specs.Net.{net_of, beside}
-use Rattle.flow_rules.specs.Flows.{cost}
-use Rattle.flow_rules.specs.Relaxed.{units}
-use Rattle.flow_rules.specs.Steps.{AreInRange, IsFirstPast}
-use Rattle.flow_rules.specs.CostSteps.{cost_steps}
-use Rattle.tree_rules.specs.Claim.{Network}
-use Rattle.tree_rules.specs.Leaf.{Scaled}
+use Rattle.dual_simplex.specs.number_sets.Sets.{has}
+use Rattle.dual_simplex.specs.integer_laws.Range.{InRange, AllInRange}
+use Rattle.dual_simplex.proofs.exact_numbers.Cited.{fits_from_range}
+use Rattle.dual_simplex.specs.problem_rules.Problem.{Problem}
+use Rattle.dual_simplex.specs.flow_rules.Net.{net_of, beside}
+use Rattle.dual_simplex.specs.flow_rules.Flows.{cost}
+use Rattle.dual_simplex.specs.flow_rules.Relaxed.{units}
+use Rattle.dual_simplex.specs.flow_rules.Steps.{AreInRange, IsFirstPast}
+use Rattle.dual_simplex.specs.flow_rules.CostSteps.{cost_steps}
+use Rattle.node_evaluation.specs.tree_rules.Claim.{Network}
+use Rattle.node_evaluation.specs.tree_rules.Leaf.{Scaled}
 use Rattle.dual_simplex.specs.Bench.{IsLeastOf, AreFlowsOf}
-use Rattle.tree_rules.specs.Known.{KnowsPlace}
+use Rattle.node_evaluation.specs.tree_rules.Known.{KnowsPlace}
 use Rattle.dual_simplex.specs.PastPlace.{IsPastFlowOf}
 use Rattle.dual_simplex.specs.PastLaws.{IsPastHere}
-use Rattle.flow_rules.specs.declared.place.Place.TheVariants.{Cost}
-use Rattle.tree_rules.specs.LeastFlows.{decided}
+use Rattle.dual_simplex.specs.flow_rules.declared.place.Place.TheVariants.{Cost}
+use Rattle.node_evaluation.specs.tree_rules.LeastFlows.{decided}
 use Rattle.flow_evaluator.specs.Answers.{IsLeastFor}
 use Rattle.flow_evaluator.proofs.AnswerLemmas.{last_in_range, set_of_problem, one_each_unit}
 use Rattle.flow_evaluator.proofs.AnswerLemmas.{Reached, least_for}

@@ -1,10 +1,10 @@
 use Rattle.std.proofs.Common.{◌≡◌, List, refl, sym, subst, rules}
-use Rattle.problem_rules.specs.Each.{Each}
-use Rattle.flow_rules.specs.Net.{net_of}
-use Rattle.flow_rules.specs.Program.{program_of}
-use Rattle.flow_rules.specs.declared.place.Column.{Column}
-use Rattle.tree_rules.specs.Known.{KnowsColumn}
-use Rattle.tree_rules.specs.LeastFlows.{decided}
+use Rattle.dual_simplex.specs.problem_rules.Each.{Each}
+use Rattle.dual_simplex.specs.flow_rules.Net.{net_of}
+use Rattle.dual_simplex.specs.flow_rules.Program.{program_of}
+use Rattle.dual_simplex.specs.flow_rules.declared.place.Column.{Column}
+use Rattle.node_evaluation.specs.tree_rules.Known.{KnowsColumn}
+use Rattle.node_evaluation.specs.tree_rules.LeastFlows.{decided}
 use Rattle.flow_evaluator.specs.Answers.{IsPastFor}
 use Rattle.flow_evaluator.proofs.StructureKnownLemmas.{columns_known}
 use Rattle.flow_evaluator.proofs.least.past.Goals as goal

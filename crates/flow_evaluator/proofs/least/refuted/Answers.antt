@@ -1,7 +1,7 @@
 use Rattle.std.proofs.Common.{◌≡◌, ℤ, List, ◌∙◌, subst, sym, rules}
-use Rattle.flow_rules.specs.Net.{net_of, beside}
-use Rattle.flow_rules.specs.Relaxed.{Refutes}
-use Rattle.tree_rules.specs.LeastFlows.{decided, rows_of, HasNoFlows}
+use Rattle.dual_simplex.specs.flow_rules.Net.{net_of, beside}
+use Rattle.dual_simplex.specs.flow_rules.Relaxed.{Refutes}
+use Rattle.node_evaluation.specs.tree_rules.LeastFlows.{decided, rows_of, HasNoFlows}
 use Rattle.flow_evaluator.proofs.AnswerLemmas.{one_each_row}
 use Rattle.flow_evaluator.proofs.least.refuted.Goals as goal
 

@@ -1,13 +1,13 @@
 use Rattle.std.proofs.Common.{◌≡◌, ◌≤◌, ◌∙◌, ap, subst, sym, ℕ}
 use Rattle.std.specs.Prelude.{IfOk}
-use Rattle.problem_rules.specs.Problem.{Problem}
-use Rattle.number_sets.proofs.SetLemmas.{length_below}
-use Rattle.pns_rules.specs.Nodes.{Node}
-use Rattle.flow_rules.specs.Net.{net_of}
-use Rattle.flow_rules.specs.Program.{program_of}
-use Rattle.tree_rules.specs.Known.{KnowsPlace}
+use Rattle.dual_simplex.specs.problem_rules.Problem.{Problem}
+use Rattle.dual_simplex.proofs.number_sets.Cited.{length_below}
+use Rattle.dual_simplex.specs.pns_rules.Nodes.{Node}
+use Rattle.dual_simplex.specs.flow_rules.Net.{net_of}
+use Rattle.dual_simplex.specs.flow_rules.Program.{program_of}
+use Rattle.node_evaluation.specs.tree_rules.Known.{KnowsPlace}
 use Rattle.dual_simplex.specs.PastPlace.{IsPastOf}
-use Rattle.tree_rules.specs.LeastFlows.{decided}
+use Rattle.node_evaluation.specs.tree_rules.LeastFlows.{decided}
 use Rattle.flow_evaluator.specs.Answers.{AnswersFor}
 use Rattle.flow_evaluator.proofs.StructureKnownLemmas.{entry_known}
 use Rattle.flow_evaluator.proofs.least.walked.Goals as goal

@@ -1,9 +1,9 @@
 use Rattle.std.proofs.Common.{◌≡◌, ℕ, Bool, not, List, length, ap, ◌∙◌, rules}
 use Rattle.std.specs.Prelude.{◌&&◌, nat_lt}
 use Rattle.std.proofs.Math.Path.{fun_ext}
-use Rattle.number_sets.specs.Sets.{has}
-use Rattle.number_sets.proofs.SetLemmas.{has-minus}
-use Rattle.pns_rules.specs.Nodes.{Node}
+use Rattle.dual_simplex.specs.number_sets.Sets.{has}
+use Rattle.dual_simplex.proofs.number_sets.Cited.{has-minus}
+use Rattle.dual_simplex.specs.pns_rules.Nodes.{Node}
 use Rattle.flow_evaluator.proofs.nodes.node_of.Goals as goal
 
 pub returns-clause-node : goal.returns-clause-node

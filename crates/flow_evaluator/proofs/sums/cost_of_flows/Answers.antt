@@ -1,17 +1,17 @@
 use Rattle.std.proofs.Common.{◌≡◌, ℕ, ℤ, pos, List, length, refl, sym, ap, ◌∙◌, subst, rules, SFits}
 use Rattle.std.specs.Int.{w128}
 use Rattle.std.proofs.lemmas.Int.{to_z-of_z}
-use Rattle.number_sets.specs.Sets.{has}
-use Rattle.integer_laws.specs.Range.{InRange}
-use Rattle.problem_rules.specs.Problem.{Problem}
-use Rattle.exact_numbers.proofs.RangeLemmas.{fits_from_range}
-use Rattle.pgraph.specs.View.{node_of}
-use Rattle.flow_rules.specs.Net.{net_of, beside}
-use Rattle.flow_rules.specs.Flows.{cost}
-use Rattle.flow_rules.specs.Program.{program_of}
-use Rattle.flow_rules.specs.Steps.{AreInRange, IsFirstPast}
-use Rattle.flow_rules.specs.CostSteps.{cost_steps}
-use Rattle.flow_rules.specs.FeasibleSteps.{feasible_steps}
+use Rattle.dual_simplex.specs.number_sets.Sets.{has}
+use Rattle.dual_simplex.specs.integer_laws.Range.{InRange}
+use Rattle.dual_simplex.specs.problem_rules.Problem.{Problem}
+use Rattle.dual_simplex.proofs.exact_numbers.Cited.{fits_from_range}
+use Rattle.dual_simplex.specs.pgraph.View.{node_of}
+use Rattle.dual_simplex.specs.flow_rules.Net.{net_of, beside}
+use Rattle.dual_simplex.specs.flow_rules.Flows.{cost}
+use Rattle.dual_simplex.specs.flow_rules.Program.{program_of}
+use Rattle.dual_simplex.specs.flow_rules.Steps.{AreInRange, IsFirstPast}
+use Rattle.dual_simplex.specs.flow_rules.CostSteps.{cost_steps}
+use Rattle.dual_simplex.specs.flow_rules.FeasibleSteps.{feasible_steps}
 use Rattle.flow_evaluator.proofs.FlowLemmas.{last_in_range, carried, is_split, units_inside}
 use Rattle.flow_evaluator.proofs.KnownLemmas.{kept_known}
 use Rattle.flow_evaluator.proofs.sums.cost_of_flows.Goals as goal

@@ -1,14 +1,14 @@
 use Rattle.std.proofs.Common.{pos, List, ℤ, refl, sym, subst}
-use Rattle.problem_rules.specs.Problem.{Problem}
-use Rattle.pgraph.specs.View.{node_of}
-use Rattle.flow_rules.specs.Net.{net_of}
-use Rattle.flow_rules.specs.Program.{program_of}
-use Rattle.flow_rules.specs.Steps.{IsFirstPast}
-use Rattle.flow_rules.specs.BoundSteps.{bound_steps}
-use Rattle.flow_rules.specs.declared.place.Column.{Column}
-use Rattle.flow_rules.specs.declared.place.Place.TheVariants.{Refute}
-use Rattle.tree_rules.specs.Leaf.{multiplier}
-use Rattle.tree_rules.specs.Past.{IsPastAt}
+use Rattle.dual_simplex.specs.problem_rules.Problem.{Problem}
+use Rattle.dual_simplex.specs.pgraph.View.{node_of}
+use Rattle.dual_simplex.specs.flow_rules.Net.{net_of}
+use Rattle.dual_simplex.specs.flow_rules.Program.{program_of}
+use Rattle.dual_simplex.specs.flow_rules.Steps.{IsFirstPast}
+use Rattle.dual_simplex.specs.flow_rules.BoundSteps.{bound_steps}
+use Rattle.dual_simplex.specs.flow_rules.declared.place.Column.{Column}
+use Rattle.dual_simplex.specs.flow_rules.declared.place.Place.TheVariants.{Refute}
+use Rattle.node_evaluation.specs.tree_rules.Leaf.{multiplier}
+use Rattle.node_evaluation.specs.tree_rules.Past.{IsPastAt}
 use Rattle.flow_evaluator.proofs.KnownLemmas.{column_known, kept_known}
 use Rattle.flow_evaluator.proofs.sums.form_refutation.Goals as goal
 

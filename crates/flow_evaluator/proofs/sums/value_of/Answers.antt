@@ -2,17 +2,17 @@ use Rattle.std.proofs.Common.{◌≡◌, ℤ, pos, ◌≤ℤ◌, List, refl, sym
 use Rattle.std.proofs.Common.{to_z, of_z}
 use Rattle.std.specs.Int.{w128}
 use Rattle.std.proofs.lemmas.Int.{to_z-of_z}
-use Rattle.exact_numbers.specs.Number.{numerator, denominator}
-use Rattle.integer_laws.specs.Range.{InRange}
-use Rattle.problem_rules.specs.Problem.{Problem}
-use Rattle.exact_numbers.proofs.RangeLemmas.{fits_from_range}
-use Rattle.pgraph.specs.View.{node_of}
-use Rattle.flow_rules.specs.Net.{net_of}
-use Rattle.flow_rules.specs.Program.{program_of}
-use Rattle.flow_rules.specs.Relaxed.{bound}
-use Rattle.flow_rules.specs.Steps.{AreInRange, IsFirstPast}
-use Rattle.flow_rules.specs.BoundSteps.{bound_steps}
-use Rattle.tree_rules.specs.Leaf.{multiplier}
+use Rattle.dual_simplex.specs.exact_numbers.Number.{numerator, denominator}
+use Rattle.dual_simplex.specs.integer_laws.Range.{InRange}
+use Rattle.dual_simplex.specs.problem_rules.Problem.{Problem}
+use Rattle.dual_simplex.proofs.exact_numbers.Cited.{fits_from_range}
+use Rattle.dual_simplex.specs.pgraph.View.{node_of}
+use Rattle.dual_simplex.specs.flow_rules.Net.{net_of}
+use Rattle.dual_simplex.specs.flow_rules.Program.{program_of}
+use Rattle.dual_simplex.specs.flow_rules.Relaxed.{bound}
+use Rattle.dual_simplex.specs.flow_rules.Steps.{AreInRange, IsFirstPast}
+use Rattle.dual_simplex.specs.flow_rules.BoundSteps.{bound_steps}
+use Rattle.node_evaluation.specs.tree_rules.Leaf.{multiplier}
 use Rattle.flow_evaluator.proofs.FlowLemmas.{last_in_range}
 use Rattle.flow_evaluator.proofs.KnownLemmas.{kept_known}
 use Rattle.flow_evaluator.proofs.sums.value_of.Goals as goal

@@ -3,15 +3,15 @@ use Rattle.std.proofs.Common.{◌<◌, ◌*ℤ◌, true, subst}
 use Rattle.std.specs.Int.{w128}
 use Rattle.std.proofs.lemmas.Int.{to_z-of_z}
 use Rattle.std.proofs.lemmas.Result.{IfOk-weaker}
-use Rattle.integer_laws.specs.Total.{total}
-use Rattle.number_sets.specs.Sets.{has, listed}
-use Rattle.number_sets.proofs.SetLemmas.{length_below}
-use Rattle.pns_rules.specs.Shape.{Shape}
-use Rattle.pns_rules.specs.Structure.{mats}
+use Rattle.exact_numbers.specs.integer_laws.Total.{total}
+use Rattle.pgraph.specs.number_sets.Sets.{has, listed}
+use Rattle.pgraph.proofs.number_sets.Cited.{length_below}
+use Rattle.pgraph.specs.pns_rules.Shape.{Shape}
+use Rattle.pgraph.specs.pns_rules.Structure.{mats}
 use Rattle.pgraph.specs.View.{node_of}
-use Rattle.flow_rules.specs.Net.{net_of, trillion, beside}
-use Rattle.flow_rules.specs.Relaxed.{stays, units, rows, fixed_cost}
-use Rattle.flow_rules.proofs.SameLemmas.{Agree}
+use Rattle.pgraph.specs.flow_rules.Net.{net_of, trillion, beside}
+use Rattle.pgraph.specs.flow_rules.Relaxed.{stays, units, rows, fixed_cost}
+use Rattle.pgraph.proofs.flow_rules.Cited.{Agree}
 use Rattle.flow_program.specs.Entry.{entry}
 use Rattle.flow_program.specs.NodeSets.{AreNeeded}
 use Rattle.flow_program.proofs.NodeSetLemmas.{listed_had, set_listed}

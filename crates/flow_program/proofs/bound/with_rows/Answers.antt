@@ -1,10 +1,10 @@
 use Rattle.std.proofs.Common.{◌∙◌, refl, sym, SFits, rules, to_z, get_or, pos, ◌==◌, not, arith}
 use Rattle.std.specs.Int.{w128}
 use Rattle.std.proofs.lemmas.Int.{to_z-of_z}
-use Rattle.number_sets.specs.Sets.{kept}
-use Rattle.number_sets.proofs.SetLemmas.{length_below}
+use Rattle.pgraph.specs.number_sets.Sets.{kept}
+use Rattle.pgraph.proofs.number_sets.Cited.{length_below}
 use Rattle.pgraph.specs.View.{node_of}
-use Rattle.flow_rules.specs.Net.{net_of}
+use Rattle.pgraph.specs.flow_rules.Net.{net_of}
 use Rattle.flow_program.specs.Entry.{entry}
 use Rattle.flow_program.proofs.WalkLemmas.{next_of, head_had, is_next, shorter, next_had}
 use Rattle.flow_program.proofs.WalkLemmas.{next_below}

@@ -1,7 +1,7 @@
 use Rattle.std.proofs.Common.{SFits, rules, arith}
 use Rattle.std.specs.Int.{w128}
 use Rattle.std.proofs.lemmas.Int.{to_z-of_z}
-use Rattle.number_sets.proofs.SetLemmas.{length_below}
+use Rattle.pgraph.proofs.number_sets.Cited.{length_below}
 use Rattle.flow_program.specs.Entry.{entry}
 use Rattle.flow_program.proofs.BoundSumLemmas.{past_in_rows, past_in_least, column_in_range}
 use Rattle.flow_program.proofs.bound.with_unit.Goals as goal

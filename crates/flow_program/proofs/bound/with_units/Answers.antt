@@ -2,14 +2,14 @@ use Rattle.std.proofs.Common.{◌∙◌, refl, sym, ap, SFits, rules, to_z, ℤ,
 use Rattle.std.proofs.Common.{arith, ◌+◌, ◌≤◌, ◌+ℤ◌}
 use Rattle.std.specs.Int.{w128}
 use Rattle.std.proofs.lemmas.Int.{to_z-of_z}
-use Rattle.number_sets.specs.Sets.{kept}
-use Rattle.number_sets.proofs.SetLemmas.{length_below}
+use Rattle.pgraph.specs.number_sets.Sets.{kept}
+use Rattle.pgraph.proofs.number_sets.Cited.{length_below}
 use Rattle.pgraph.specs.View.{node_of}
-use Rattle.flow_rules.specs.Net.{net_of}
+use Rattle.pgraph.specs.flow_rules.Net.{net_of}
 use Rattle.flow_program.specs.Entry.{entry}
 use Rattle.flow_program.proofs.WalkLemmas.{next_of, head_had, is_next, shorter, next_had}
 use Rattle.flow_program.proofs.WalkLemmas.{next_below}
-use Rattle.flow_rules.specs.Relaxed.{stays}
+use Rattle.pgraph.specs.flow_rules.Relaxed.{stays}
 use Rattle.flow_program.specs.Columns.{column_steps}
 use Rattle.flow_program.proofs.NodeSetLemmas.{listed_had}
 use Rattle.flow_program.proofs.BoundLemmas.{length_of_column}

@@ -2,11 +2,10 @@ use Rattle.std.proofs.Common.{◌∙◌, ◌≡◌, refl, sym, ap, ℤ, ◌*ℤ�
 use Rattle.std.proofs.Common.{get_or, pos, ℕ, ◌<◌, true, length, subst, arith}
 use Rattle.std.specs.Int.{w128}
 use Rattle.std.proofs.lemmas.Int.{to_z-of_z}
-use Rattle.number_sets.specs.Sets.{has, kept}
-use Rattle.number_sets.proofs.OptionLemmas.{first_none}
-use Rattle.number_sets.proofs.SetLemmas.{length_below}
-use Rattle.pns_rules.specs.Shape.{Shape}
-use Rattle.flow_rules.specs.Net.{net_of, trillion, beside}
+use Rattle.pgraph.specs.number_sets.Sets.{has, kept}
+use Rattle.pgraph.proofs.number_sets.Cited.{first_none, length_below}
+use Rattle.pgraph.specs.pns_rules.Shape.{Shape}
+use Rattle.pgraph.specs.flow_rules.Net.{net_of, trillion, beside}
 use Rattle.flow_program.specs.Entry.{entry}
 use Rattle.flow_program.proofs.WalkLemmas.{next_of, head_had, IsNext, is_next, shorter, next_had}
 use Rattle.flow_program.proofs.WalkLemmas.{next_below}

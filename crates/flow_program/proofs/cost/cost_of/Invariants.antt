@@ -1,6 +1,6 @@
-use Rattle.number_sets.specs.Sets.{IsSet}
+use Rattle.pgraph.specs.number_sets.Sets.{IsSet}
 use Rattle.std.proofs.Common.{length}
-use Rattle.flow_rules.specs.Net.{net_of}
+use Rattle.pgraph.specs.flow_rules.Net.{net_of}
 use Rattle.flow_program.specs.Entry.{entry}
 use Rattle.flow_program.proofs.CostSumLemmas.{IsCostSum}
 use Rattle.flow_program.proofs.cost.cost_of.Given as goal

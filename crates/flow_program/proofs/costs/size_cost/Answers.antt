@@ -1,8 +1,8 @@
 use Rattle.std.proofs.Common.{◌∙◌, sym, ap, SFits, rules, to_z, arith, ℤ, pos, get_or, ◌-ℤ◌, ◌*ℤ◌}
 use Rattle.std.specs.Int.{w64, w128}
-use Rattle.flow_rules.specs.Net.{net_of}
+use Rattle.pgraph.specs.flow_rules.Net.{net_of}
 use Rattle.std.proofs.lemmas.Int.{to_z-of_z}
-use Rattle.number_sets.proofs.OptionLemmas.{first_none}
+use Rattle.pgraph.proofs.number_sets.Cited.{first_none}
 use Rattle.flow_program.proofs.SizeLemmas.{fits_small, size_sub}
 use Rattle.flow_program.proofs.WalkLemmas.{next_of, head_had, IsNext, is_next, shorter, has_next}
 use Rattle.flow_program.proofs.CostLemmas.{cost_more, cost_so_far_small, cost_ends}

@@ -2,8 +2,8 @@ use Rattle.std.proofs.Common.{◌∙◌, refl, sym, ap, SFits, rules, to_z, get_
 use Rattle.std.proofs.Common.{arith, ◌+ℤ◌}
 use Rattle.std.specs.Int.{w64, w128}
 use Rattle.std.proofs.lemmas.Int.{to_z-of_z}
-use Rattle.number_sets.specs.Sets.{kept}
-use Rattle.number_sets.proofs.SetLemmas.{length_below}
+use Rattle.pgraph.specs.number_sets.Sets.{kept}
+use Rattle.pgraph.proofs.number_sets.Cited.{length_below}
 use Rattle.flow_program.specs.Entry.{entry}
 use Rattle.flow_program.proofs.WalkLemmas.{next_of, head_had, is_next, shorter, next_had}
 use Rattle.flow_program.proofs.FeasibleLemmas.{moved_past, sum_past, balance_more, balance_room}

@@ -1,11 +1,11 @@
 use Rattle.std.proofs.Common.{◌≡◌, ◌∙◌, ap, ℕ, ℤ, List, length, ◌<◌, true, subst}
 use Rattle.std.proofs.lemmas.Int.{to_z-of_z}
-use Rattle.number_sets.specs.Sets.{has, listed}
-use Rattle.pns_rules.specs.Shape.{Shape}
-use Rattle.pns_rules.specs.Structure.{mats}
+use Rattle.pgraph.specs.number_sets.Sets.{has, listed}
+use Rattle.pgraph.specs.pns_rules.Shape.{Shape}
+use Rattle.pgraph.specs.pns_rules.Structure.{mats}
 use Rattle.pgraph.specs.Tables.{shape}
-use Rattle.flow_rules.specs.Net.{net_of, beside, units_of, materials_of}
-use Rattle.flow_rules.specs.Steps.{AreInRange, IsFirstPast}
+use Rattle.pgraph.specs.flow_rules.Net.{net_of, beside, units_of, materials_of}
+use Rattle.pgraph.specs.flow_rules.Steps.{AreInRange, IsFirstPast}
 use Rattle.flow_program.specs.Entry.{entry}
 use Rattle.flow_program.proofs.NodeSetLemmas.{listed_had, set_listed}
 use Rattle.flow_program.proofs.FeasibleLemmas.{flows_are, materials_are, beside_none}

@@ -2,9 +2,9 @@ use Rattle.std.proofs.Common.{◌≡◌, ◌∙◌, refl, sym, ap, SFits, rules,
 use Rattle.std.proofs.Common.{false, List, length, ◌<◌, subst}
 use Rattle.std.specs.Int.{w64, w128}
 use Rattle.std.proofs.lemmas.Int.{to_z-of_z}
-use Rattle.number_sets.specs.Sets.{kept}
-use Rattle.problem_rules.specs.Problem.{OperatingUnit, unit_at}
-use Rattle.flow_rules.specs.Net.{net_of}
+use Rattle.pgraph.specs.number_sets.Sets.{kept}
+use Rattle.pgraph.specs.problem_rules.Problem.{OperatingUnit, unit_at}
+use Rattle.pgraph.specs.flow_rules.Net.{net_of}
 use Rattle.flow_program.specs.Entry.{entry}
 use Rattle.flow_program.proofs.RateLemmas.{unit_read}
 use Rattle.flow_program.proofs.WalkLemmas.{next_of, head_had, is_next, shorter, next_had}

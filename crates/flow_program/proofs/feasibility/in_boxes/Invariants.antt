@@ -1,6 +1,6 @@
-use Rattle.number_sets.specs.Sets.{IsSet}
+use Rattle.pgraph.specs.number_sets.Sets.{IsSet}
 use Rattle.std.proofs.Common.{length}
-use Rattle.flow_rules.specs.Net.{net_of}
+use Rattle.pgraph.specs.flow_rules.Net.{net_of}
 use Rattle.flow_program.specs.Entry.{entry}
 use Rattle.flow_program.proofs.FeasibleLemmas.{IsBoxesSoFar}
 use Rattle.flow_program.proofs.feasibility.in_boxes.Given as goal

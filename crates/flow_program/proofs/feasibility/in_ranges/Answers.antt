@@ -2,15 +2,15 @@ use Rattle.std.proofs.Common.{◌≡◌, ◌∙◌, refl, sym, ap, SFits, rules,
 use Rattle.std.proofs.Common.{length, arith, ◌<◌, ◌||◌, ◌&&◌, subst}
 use Rattle.std.specs.Int.{w64, w128}
 use Rattle.std.proofs.lemmas.Int.{to_z-of_z}
-use Rattle.number_sets.specs.Sets.{has, kept}
-use Rattle.number_sets.proofs.SetLemmas.{length_below}
-use Rattle.problem_rules.specs.Problem.{Material, rate_of, material_at}
+use Rattle.pgraph.specs.number_sets.Sets.{has, kept}
+use Rattle.pgraph.proofs.number_sets.Cited.{length_below}
+use Rattle.pgraph.specs.problem_rules.Problem.{Material, rate_of, material_at}
 use Rattle.std.specs.Ordering.{int_eq}
-use Rattle.problem_rules.specs.WellFormed.{IsInRange}
-use Rattle.pns_rules.specs.Shape.{Shape}
-use Rattle.flow_rules.specs.Net.{net_of, low_end, high_end}
-use Rattle.flow_rules.specs.FeasibleSteps.{units_at}
-use Rattle.flow_rules.proofs.NetLemmas.{material_formed}
+use Rattle.pgraph.specs.problem_rules.WellFormed.{IsInRange}
+use Rattle.pgraph.specs.pns_rules.Shape.{Shape}
+use Rattle.pgraph.specs.flow_rules.Net.{net_of, low_end, high_end}
+use Rattle.pgraph.specs.flow_rules.FeasibleSteps.{units_at}
+use Rattle.pgraph.proofs.flow_rules.Cited.{material_formed}
 use Rattle.flow_program.specs.Entry.{entry}
 use Rattle.flow_program.proofs.RateLemmas.{material_read}
 use Rattle.flow_program.proofs.NodeSetLemmas.{listed_had}

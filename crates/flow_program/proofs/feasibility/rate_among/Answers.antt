@@ -1,7 +1,7 @@
 use Rattle.std.proofs.Common.{◌∙◌, sym, SFits, rules, ap}
 use Rattle.std.specs.Int.{w64}
 use Rattle.std.proofs.lemmas.Int.{to_z-of_z}
-use Rattle.problem_rules.specs.Problem.{Term}
+use Rattle.pgraph.specs.problem_rules.Problem.{Term}
 use Rattle.flow_program.proofs.RateLemmas.{rate_found, rate_skipped}
 use Rattle.flow_program.proofs.feasibility.rate_among.Goals as goal
 

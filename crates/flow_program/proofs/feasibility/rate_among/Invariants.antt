@@ -1,5 +1,5 @@
 use Rattle.std.proofs.Common.{◌≡◌, drop}
-use Rattle.problem_rules.specs.Problem.{rate_in}
+use Rattle.pgraph.specs.problem_rules.Problem.{rate_in}
 use Rattle.flow_program.proofs.feasibility.rate_among.Given as goal
 
 abbrev pub invariant-looking : goal.invariant-looking

@@ -1,9 +1,9 @@
 use Rattle.std.proofs.Common.{◌∙◌, sym, ap, SFits, rules, List, length, subst}
 use Rattle.std.specs.Int.{w64}
 use Rattle.std.proofs.lemmas.Int.{to_z-of_z}
-use Rattle.problem_rules.specs.Problem.{OperatingUnit, Term, rate_in, unit_at}
-use Rattle.problem_rules.specs.WellFormed.{IsInRange}
-use Rattle.flow_rules.proofs.NetLemmas.{unit_formed}
+use Rattle.pgraph.specs.problem_rules.Problem.{OperatingUnit, Term, rate_in, unit_at}
+use Rattle.pgraph.specs.problem_rules.WellFormed.{IsInRange}
+use Rattle.pgraph.proofs.flow_rules.Cited.{unit_formed}
 use Rattle.flow_program.proofs.RateLemmas.{unit_read, rate_in_range}
 use Rattle.flow_program.proofs.feasibility.rate_at.Goals as goal
 

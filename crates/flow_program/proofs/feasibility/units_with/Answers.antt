@@ -1,6 +1,6 @@
 use Rattle.std.proofs.Common.{◌∙◌, ap, ℕ, List, ◌||◌, ◌&&◌}
-use Rattle.number_sets.specs.Sets.{has}
-use Rattle.number_sets.proofs.SetLemmas.{has-union, has-meet}
+use Rattle.pgraph.specs.number_sets.Sets.{has}
+use Rattle.pgraph.proofs.number_sets.Cited.{has-union, has-meet}
 use Rattle.flow_program.proofs.feasibility.units_with.Goals as goal
 
 pub returns : goal.returns

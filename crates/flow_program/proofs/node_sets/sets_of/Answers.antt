@@ -1,7 +1,7 @@
 use Rattle.std.proofs.Common.{◌≡◌, ◌∙◌, refl, ap, ◌||◌, List, ℕ, length}
 use Rattle.std.specs.Prelude.{nat_lt}
-use Rattle.number_sets.specs.Sets.{has}
-use Rattle.number_sets.proofs.SetLemmas.{has-union}
+use Rattle.pgraph.specs.number_sets.Sets.{has}
+use Rattle.pgraph.proofs.number_sets.Cited.{has-union}
 use Rattle.pgraph.specs.Tables.{shape}
 use Rattle.pgraph.specs.View.{node_of}
 use Rattle.flow_program.proofs.NodeSetLemmas.{units_below, units_listed, rows_listed}

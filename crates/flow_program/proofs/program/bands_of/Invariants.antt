@@ -1,4 +1,4 @@
-use Rattle.number_sets.specs.Sets.{IsSet}
+use Rattle.pgraph.specs.number_sets.Sets.{IsSet}
 use Rattle.std.proofs.Common.{length}
 use Rattle.pgraph.specs.View.{node_of}
 use Rattle.flow_program.proofs.ProgramLemmas.{AreBands}

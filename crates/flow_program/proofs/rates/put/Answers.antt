@@ -1,7 +1,7 @@
 use Rattle.std.proofs.Common.{◌≡◌, SFits, rules, ap, ◌∙◌, ℤ}
 use Rattle.std.specs.Int.{w64}
 use Rattle.std.proofs.lemmas.Int.{to_z-of_z}
-use Rattle.problem_rules.specs.Problem.{Term}
+use Rattle.pgraph.specs.problem_rules.Problem.{Term}
 use Rattle.flow_program.proofs.RateLemmas.{signed, write_one}
 use Rattle.flow_program.proofs.rates.put.Goals as goal
 

@@ -1,9 +1,9 @@
 use Rattle.std.proofs.Common.{◌≡◌, ap, ◌∙◌, subst, ℕ, ◌||◌, List, true, false, cond, get_or, pos}
-use Rattle.number_sets.specs.Sets.{has}
-use Rattle.number_sets.proofs.SetLemmas.{has-union}
-use Rattle.problem_rules.specs.Problem.{OperatingUnit, Term, unit_at, terms_have, rate_in}
-use Rattle.pns_rules.specs.Shape.{Shape}
-use Rattle.flow_rules.proofs.NetLemmas.{unit_formed}
+use Rattle.pgraph.specs.number_sets.Sets.{has}
+use Rattle.pgraph.proofs.number_sets.Cited.{has-union}
+use Rattle.pgraph.specs.problem_rules.Problem.{OperatingUnit, Term, unit_at, terms_have, rate_in}
+use Rattle.pgraph.specs.pns_rules.Shape.{Shape}
+use Rattle.pgraph.proofs.flow_rules.Cited.{unit_formed}
 use Rattle.flow_program.proofs.RateLemmas.{are_rates, unit_read, signed}
 use Rattle.flow_program.proofs.rates.put_rates.Goals as goal
 

@@ -1,4 +1,4 @@
-use Rattle.number_sets.specs.Sets.{IsSet}
+use Rattle.pgraph.specs.number_sets.Sets.{IsSet}
 use Rattle.std.proofs.Common.{length}
 use Rattle.flow_program.proofs.TableLemmas.{IsTabled}
 use Rattle.flow_program.proofs.tables.by_material.Given as goal

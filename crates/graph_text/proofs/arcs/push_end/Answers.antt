@@ -1,7 +1,7 @@
 use Rattle.std.proofs.Common.{◌≡◌, ◌∙◌, ◌++◌, ◌∷◌, [], sym, ap, codes, append_assoc, arith, ℕ, List}
 use Rattle.std.proofs.Common.{string_bytes}
-use Rattle.pns_problem.proofs.PrintingLemmas.{after}
-use Rattle.report_rules.specs.Graph.{arc_tip, arc_look}
+use Rattle.report_amounts.proofs.pns_problem.Cited.{after}
+use Rattle.report_amounts.specs.report_rules.Graph.{arc_tip, arc_look}
 use Rattle.graph_text.specs.Kept.{picture_of}
 use Rattle.graph_text.proofs.Lines.{after_three}
 use Rattle.graph_text.proofs.arcs.push_end.Goals as goal

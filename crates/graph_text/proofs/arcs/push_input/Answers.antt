@@ -1,7 +1,7 @@
 use Rattle.std.proofs.Common.{◌≡◌, ◌∙◌, ◌++◌, ap, sym, List, ℕ, string_bytes}
-use Rattle.problem_rules.specs.Problem.{Term}
-use Rattle.report_rules.specs.Drawn.{is_spread}
-use Rattle.report_rules.specs.Graph.{use_line, plain_line}
+use Rattle.report_amounts.specs.problem_rules.Problem.{Term}
+use Rattle.report_amounts.specs.report_rules.Drawn.{is_spread}
+use Rattle.report_amounts.specs.report_rules.Graph.{use_line, plain_line}
 use Rattle.graph_text.specs.Kept.{picture_of}
 use Rattle.graph_text.proofs.Lines.{on_ok, if_true, if_false}
 use Rattle.graph_text.proofs.arcs.push_input.Goals as goal

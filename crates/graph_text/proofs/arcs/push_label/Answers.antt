@@ -2,7 +2,7 @@ use Rattle.std.proofs.Common.{◌≡◌, ◌∙◌, ◌++◌, ◌∷◌, [], ap,
 use Rattle.std.proofs.Common.{unsigned_abs, SFits, rules}
 use Rattle.std.specs.Int.{w128}
 use Rattle.std.proofs.lemmas.Int.{to_z-of_z}
-use Rattle.report_rules.specs.Drawn.{flow_text}
+use Rattle.report_amounts.specs.report_rules.Drawn.{flow_text}
 use Rattle.graph_text.proofs.Lines.{after_three}
 use Rattle.graph_text.proofs.arcs.push_label.Goals as goal
 

@@ -1,6 +1,6 @@
 use Rattle.std.proofs.Common.{◌++◌, ◌∙◌, string_bytes, ap, arith, List, ℕ}
-use Rattle.pns_problem.proofs.PrintingLemmas.{one_line}
-use Rattle.report_rules.specs.Graph.{output_line}
+use Rattle.report_amounts.proofs.pns_problem.Cited.{one_line}
+use Rattle.report_amounts.specs.report_rules.Graph.{output_line}
 use Rattle.graph_text.specs.Kept.{picture_of}
 use Rattle.graph_text.proofs.arcs.push_outputs.Goals as goal
 

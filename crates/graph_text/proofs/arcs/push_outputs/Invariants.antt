@@ -1,6 +1,6 @@
 use Rattle.std.proofs.Common.{string_bytes}
-use Rattle.pns_problem.proofs.Printed.{AreLinesPrinted}
-use Rattle.report_rules.specs.Graph.{output_line}
+use Rattle.report_amounts.proofs.pns_problem.Cited.{AreLinesPrinted}
+use Rattle.report_amounts.specs.report_rules.Graph.{output_line}
 use Rattle.graph_text.specs.Kept.{picture_of}
 use Rattle.graph_text.proofs.arcs.push_outputs.Given as goal
 

@@ -2,8 +2,8 @@ use Rattle.std.proofs.Common.{◌≡◌, ◌∙◌, ◌++◌, ◌∷◌, [], ap,
 use Rattle.std.proofs.Common.{SFits, rules}
 use Rattle.std.specs.Int.{w64}
 use Rattle.std.proofs.lemmas.Int.{to_z-of_z}
-use Rattle.problem_rules.specs.Problem.{Problem, Term, unit_at, material_at}
-use Rattle.report_rules.specs.Graph.{told}
+use Rattle.report_amounts.specs.problem_rules.Problem.{Problem, Term, unit_at, material_at}
+use Rattle.report_amounts.specs.report_rules.Graph.{told}
 use Rattle.graph_text.proofs.Lines.{after_four}
 use Rattle.graph_text.proofs.arcs.push_tip.Goals as goal
 

@@ -1,7 +1,8 @@
 use Rattle.std.proofs.Common.{◌≡◌, ◌∙◌, ◌++◌, ◌∷◌, [], ap, codes, ℕ, List, string_bytes}
-use Rattle.problem_rules.specs.Problem.{Problem, Material, Kind, unit_at, material_at}
-use Rattle.pns_problem.proofs.PrintingLemmas.{after}
-use Rattle.report_rules.specs.Graph.{use_node, use_look}
+use Rattle.report_amounts.specs.problem_rules.Problem.{Problem, Material, Kind, unit_at}
+use Rattle.report_amounts.specs.problem_rules.Problem.{material_at}
+use Rattle.report_amounts.proofs.pns_problem.Cited.{after}
+use Rattle.report_amounts.specs.report_rules.Graph.{use_node, use_look}
 use Rattle.graph_text.specs.Kept.{picture_of}
 use Rattle.graph_text.proofs.Lines.{after_four}
 use Rattle.graph_text.proofs.arcs.push_use.Goals as goal

@@ -1,7 +1,7 @@
 use Rattle.std.proofs.Common.{◌≡◌, ◌∙◌, ap}
-use Rattle.number_sets.specs.Sets.{has}
-use Rattle.report_rules.specs.Drawn.{most_from}
-use Rattle.report_amounts.proofs.Walk.{all_within, next_within, rest_within}
+use Rattle.report_amounts.specs.number_sets.Sets.{has}
+use Rattle.report_amounts.specs.report_rules.Drawn.{most_from}
+use Rattle.report_amounts.proofs.Cited.{all_within, next_within, rest_within}
 use Rattle.graph_text.proofs.Most.{next_unit, last_unit}
 use Rattle.graph_text.proofs.greatest.greatest_in.Goals as goal
 

@@ -1,6 +1,6 @@
 use Rattle.std.proofs.Common.{◌≡◌}
-use Rattle.number_sets.specs.Sets.{has, IsWithin}
-use Rattle.report_rules.specs.Drawn.{most_from}
+use Rattle.report_amounts.specs.number_sets.Sets.{has, IsWithin}
+use Rattle.report_amounts.specs.report_rules.Drawn.{most_from}
 use Rattle.graph_text.proofs.greatest.greatest_in.Given as goal
 
 -- the number so far and the units that are left give the whole number

@@ -2,10 +2,10 @@ use Rattle.std.proofs.Common.{◌≡◌, ◌∙◌, ◌≤◌, [], drop, ap, sym
 use Rattle.std.proofs.Common.{rules}
 use Rattle.std.specs.Int.{w128}
 use Rattle.std.proofs.lemmas.Int.{to_z-of_z}
-use Rattle.report_rules.specs.Aligned.{greater}
+use Rattle.report_amounts.specs.report_rules.Aligned.{greater}
 use Rattle.std.proofs.lemmas.List.{drop_all, drop_more}
-use Rattle.problem_rules.specs.Problem.{Term}
-use Rattle.report_rules.specs.Drawn.{moved, most_of}
+use Rattle.report_amounts.specs.problem_rules.Problem.{Term}
+use Rattle.report_amounts.specs.report_rules.Drawn.{moved, most_of}
 use Rattle.graph_text.proofs.Most.{next_most}
 use Rattle.graph_text.proofs.greatest.most_of.Goals as goal
 

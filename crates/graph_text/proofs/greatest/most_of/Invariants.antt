@@ -1,5 +1,5 @@
 use Rattle.std.proofs.Common.{◌≡◌, drop}
-use Rattle.report_rules.specs.Drawn.{most_of}
+use Rattle.report_amounts.specs.report_rules.Drawn.{most_of}
 use Rattle.graph_text.proofs.greatest.most_of.Given as goal
 
 -- the number so far and the terms that are left give the whole number

@@ -1,9 +1,9 @@
 use Rattle.std.proofs.Common.{◌≡◌, ◌∙◌, sym, subst, SFits, rules, to_z, of_z, ◌*ℤ◌}
 use Rattle.std.specs.Int.{w64, w128}
 use Rattle.std.proofs.lemmas.Int.{to_z-of_z}
-use Rattle.integer_laws.specs.Range.{InRange}
-use Rattle.problem_rules.specs.Problem.{rate_of}
-use Rattle.tree_rules.specs.Claim.{size_in}
+use Rattle.report_amounts.specs.integer_laws.Range.{InRange}
+use Rattle.report_amounts.specs.problem_rules.Problem.{rate_of}
+use Rattle.report_amounts.specs.tree_rules.Claim.{size_in}
 use Rattle.graph_text.proofs.Moves.{moved_in_range}
 use Rattle.graph_text.proofs.greatest.moved.Goals as goal
 

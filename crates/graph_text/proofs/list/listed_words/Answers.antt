@@ -1,7 +1,7 @@
 use Rattle.std.proofs.Common.{◌≡◌, ◌++◌, ◌∙◌, [], ap, codes, ℕ, List, string_bytes}
 use Rattle.std.specs.Prelude.{decimal}
-use Rattle.report_rules.specs.Ranked.{change_cell}
-use Rattle.report_rules.specs.Graph.{cost_words, change_words, listed_words}
+use Rattle.report_amounts.specs.report_rules.Ranked.{change_cell}
+use Rattle.report_amounts.specs.report_rules.Graph.{cost_words, change_words, listed_words}
 use Rattle.graph_text.proofs.Lines.{after_four}
 use Rattle.graph_text.proofs.list.listed_words.Goals as goal
 

@@ -1,7 +1,7 @@
 use Rattle.std.proofs.Common.{◌≡◌, ◌++◌, ◌∙◌, ap, codes, ℕ, List, string_bytes}
-use Rattle.report_rules.specs.Number.{Number, number_text}
-use Rattle.report_rules.specs.Ranked.{above_first}
-use Rattle.report_rules.specs.Graph.{cost_text}
+use Rattle.report_amounts.specs.report_rules.Number.{Number, number_text}
+use Rattle.report_amounts.specs.report_rules.Ranked.{above_first}
+use Rattle.report_amounts.specs.report_rules.Graph.{cost_text}
 use Rattle.graph_text.proofs.Lines.{after_three}
 use Rattle.graph_text.proofs.list.push_costs.Goals as goal
 

@@ -1,5 +1,5 @@
 use Rattle.std.proofs.Common.{◌≡◌, ◌+◌, ◌++◌, ◌∙◌, ap, arith, ℕ, List, string_bytes}
-use Rattle.report_rules.specs.Graph.{listed_words}
+use Rattle.report_amounts.specs.report_rules.Graph.{listed_words}
 use Rattle.graph_text.proofs.Listed.{next_listed}
 use Rattle.graph_text.proofs.list.push_listed.Goals as goal
 

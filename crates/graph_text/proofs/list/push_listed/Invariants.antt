@@ -1,6 +1,6 @@
 use Rattle.std.proofs.Common.{◌≡◌, ◌+◌, ◌++◌, drop, string_bytes}
-use Rattle.pns_problem.specs.Printing.{printed}
-use Rattle.report_rules.specs.Graph.{listed_lines}
+use Rattle.report_amounts.specs.pns_problem.Printing.{printed}
+use Rattle.report_amounts.specs.report_rules.Graph.{listed_lines}
 use Rattle.graph_text.proofs.list.push_listed.Given as goal
 
 -- the text so far and the lines of the networks that are left give the whole text

@@ -1,5 +1,5 @@
 use Rattle.std.proofs.Common.{◌++◌, ℕ, List, string_bytes}
-use Rattle.report_rules.specs.Graph.{list_head, listed_lines, list_end}
+use Rattle.report_amounts.specs.report_rules.Graph.{list_head, listed_lines, list_end}
 use Rattle.graph_text.proofs.Lines.{part_printed}
 use Rattle.graph_text.proofs.list.push_table.Goals as goal
 

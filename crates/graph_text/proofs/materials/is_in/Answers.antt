@@ -1,8 +1,8 @@
 use Rattle.std.proofs.Common.{◌≡◌, ◌<◌, ◌∙◌, true, sym, ap, subst, ℕ, List, Bool}
-use Rattle.number_sets.specs.Sets.{has}
-use Rattle.pns_rules.specs.Shape.{Shape, shape_of}
-use Rattle.pns_rules.specs.Structure.{mats}
-use Rattle.pgraph.specs.Tables.{shape}
+use Rattle.report_amounts.specs.number_sets.Sets.{has}
+use Rattle.report_amounts.specs.pns_rules.Shape.{Shape, shape_of}
+use Rattle.report_amounts.specs.pns_rules.Structure.{mats}
+use Rattle.report_amounts.specs.pgraph.Tables.{shape}
 use Rattle.graph_text.proofs.Moves.{is_material}
 use Rattle.graph_text.proofs.materials.is_in.Goals as goal
 

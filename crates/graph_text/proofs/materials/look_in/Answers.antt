@@ -1,10 +1,10 @@
 use Rattle.std.proofs.Common.{◌≡◌, ◌∙◌, ap, sym}
-use Rattle.number_sets.specs.Sets.{has}
-use Rattle.problem_rules.specs.Problem.{Problem}
-use Rattle.pns_rules.specs.Shape.{shape_of}
-use Rattle.pns_rules.specs.Structure.{mats}
-use Rattle.report_rules.specs.Drawn.{is_material_limited}
-use Rattle.report_rules.specs.Graph.{limit_look, grey}
+use Rattle.report_amounts.specs.number_sets.Sets.{has}
+use Rattle.report_amounts.specs.problem_rules.Problem.{Problem}
+use Rattle.report_amounts.specs.pns_rules.Shape.{shape_of}
+use Rattle.report_amounts.specs.pns_rules.Structure.{mats}
+use Rattle.report_amounts.specs.report_rules.Drawn.{is_material_limited}
+use Rattle.report_amounts.specs.report_rules.Graph.{limit_look, grey}
 use Rattle.graph_text.proofs.Lines.{if_true}
 use Rattle.graph_text.proofs.materials.look_in.Goals as goal
 

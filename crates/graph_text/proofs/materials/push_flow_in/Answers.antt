@@ -1,13 +1,13 @@
 use Rattle.std.proofs.Common.{◌≡◌, ◌<◌, ◌∙◌, subst, length, ◌++◌, ap, sym, true, ℕ, List}
 use Rattle.std.proofs.Common.{string_bytes}
-use Rattle.number_sets.specs.Sets.{has}
-use Rattle.problem_rules.specs.Problem.{Problem, material_at}
-use Rattle.pns_rules.specs.Shape.{shape_of}
-use Rattle.pns_rules.specs.Structure.{mats}
-use Rattle.flow_rules.specs.Net.{net_of, materials_of}
-use Rattle.flow_rules.specs.Flows.{balance}
-use Rattle.tree_rules.specs.Claim.{IsFeasible, size_in}
-use Rattle.report_rules.specs.Drawn.{net_label}
+use Rattle.report_amounts.specs.number_sets.Sets.{has}
+use Rattle.report_amounts.specs.problem_rules.Problem.{Problem, material_at}
+use Rattle.report_amounts.specs.pns_rules.Shape.{shape_of}
+use Rattle.report_amounts.specs.pns_rules.Structure.{mats}
+use Rattle.report_amounts.specs.flow_rules.Net.{net_of, materials_of}
+use Rattle.report_amounts.specs.flow_rules.Flows.{balance}
+use Rattle.report_amounts.specs.tree_rules.Claim.{IsFeasible, size_in}
+use Rattle.report_amounts.specs.report_rules.Drawn.{net_label}
 use Rattle.graph_text.proofs.Lines.{on_ok, where_true}
 use Rattle.graph_text.proofs.materials.push_flow_in.Goals as goal
 

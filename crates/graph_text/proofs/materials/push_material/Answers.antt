@@ -1,8 +1,9 @@
 use Rattle.std.proofs.Common.{◌≡◌, ◌∙◌, ◌++◌, ap, codes, ℕ, List, string_bytes}
-use Rattle.problem_rules.specs.Problem.{Problem, Material, material_at}
-use Rattle.pns_problem.proofs.PrintingLemmas.{after}
-use Rattle.report_rules.specs.Drawn.{material_flow}
-use Rattle.report_rules.specs.Graph.{node, material_node, material_tip, shape_words, drawn_look}
+use Rattle.report_amounts.specs.problem_rules.Problem.{Problem, Material, material_at}
+use Rattle.report_amounts.proofs.pns_problem.Cited.{after}
+use Rattle.report_amounts.specs.report_rules.Drawn.{material_flow}
+use Rattle.report_amounts.specs.report_rules.Graph.{node, material_node, material_tip, shape_words}
+use Rattle.report_amounts.specs.report_rules.Graph.{drawn_look}
 use Rattle.graph_text.proofs.Lines.{node_line_of}
 use Rattle.graph_text.proofs.materials.push_material.Goals as goal
 

@@ -1,8 +1,8 @@
 use Rattle.std.proofs.Common.{◌∙◌, ◌++◌, ap, ℕ, List, string_bytes, map, arith}
-use Rattle.number_sets.specs.Sets.{has}
-use Rattle.report_amounts.proofs.Walk.{next_within, rest_within}
-use Rattle.pns_problem.specs.Printing.{printed}
-use Rattle.report_rules.specs.Graph.{material_line}
+use Rattle.report_amounts.specs.number_sets.Sets.{has}
+use Rattle.report_amounts.proofs.Cited.{next_within, rest_within}
+use Rattle.report_amounts.specs.pns_problem.Printing.{printed}
+use Rattle.report_amounts.specs.report_rules.Graph.{material_line}
 use Rattle.graph_text.specs.Kept.{picture_of}
 use Rattle.graph_text.proofs.Lines.{next_line}
 use Rattle.graph_text.proofs.materials.push_materials.Goals as goal

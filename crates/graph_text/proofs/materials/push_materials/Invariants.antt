@@ -1,7 +1,7 @@
 use Rattle.std.proofs.Common.{◌≡◌, ◌++◌, map, string_bytes}
-use Rattle.number_sets.specs.Sets.{has, IsWithin}
-use Rattle.pns_problem.specs.Printing.{printed}
-use Rattle.report_rules.specs.Graph.{material_line}
+use Rattle.report_amounts.specs.number_sets.Sets.{has, IsWithin}
+use Rattle.report_amounts.specs.pns_problem.Printing.{printed}
+use Rattle.report_amounts.specs.report_rules.Graph.{material_line}
 use Rattle.graph_text.specs.Kept.{picture_of}
 use Rattle.graph_text.proofs.materials.push_materials.Given as goal
 

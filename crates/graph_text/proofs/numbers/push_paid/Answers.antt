@@ -1,10 +1,10 @@
 use Rattle.std.proofs.Common.{◌≡◌, ◌∙◌, ◌++◌, ap, codes, ℕ, List, string_bytes, SFits, rules}
 use Rattle.std.specs.Int.{w64, w128}
 use Rattle.std.proofs.lemmas.Int.{to_z-of_z}
-use Rattle.flow_rules.specs.Net.{million}
-use Rattle.report_rules.specs.Number.{Number, number_text}
-use Rattle.report_rules.specs.Amounts.{quotient}
-use Rattle.report_rules.specs.Drawn.{below, money}
+use Rattle.report_amounts.specs.flow_rules.Net.{million}
+use Rattle.report_amounts.specs.report_rules.Number.{Number, number_text}
+use Rattle.report_amounts.specs.report_rules.Amounts.{quotient}
+use Rattle.report_amounts.specs.report_rules.Drawn.{below, money}
 use Rattle.graph_text.proofs.Lines.{on_ok, after_four}
 use Rattle.graph_text.proofs.numbers.push_paid.Goals as goal
 

@@ -1,16 +1,17 @@
 use Rattle.std.proofs.Common.{◌≡◌, ◌<◌, ◌∙◌, ◌++◌, sym, ap, subst, ℕ, Bool, List, string_bytes, map}
 use Rattle.std.proofs.Common.{length}
 use Rattle.std.specs.Prelude.{flat_map}
-use Rattle.number_sets.specs.Sets.{has, listed}
-use Rattle.number_sets.proofs.SetLemmas.{listed-is, below_from}
-use Rattle.pns_problem.specs.Printing.{printed}
-use Rattle.pns_rules.specs.Shape.{Shape, shape_of}
-use Rattle.pns_rules.specs.Structure.{mats}
-use Rattle.flow_rules.specs.Net.{net_of, materials_of}
-use Rattle.report_amounts.proofs.FlowLemmas.{materials_are, mats_known}
-use Rattle.problem_rules.specs.Problem.{Problem}
-use Rattle.report_rules.specs.Graph.{head_lines, total_lines, list_lines, material_line, unit_lines}
-use Rattle.report_rules.specs.Graph.{last_lines}
+use Rattle.report_amounts.specs.number_sets.Sets.{has, listed}
+use Rattle.report_amounts.proofs.number_sets.Cited.{listed-is, below_from}
+use Rattle.report_amounts.specs.pns_problem.Printing.{printed}
+use Rattle.report_amounts.specs.pns_rules.Shape.{Shape, shape_of}
+use Rattle.report_amounts.specs.pns_rules.Structure.{mats}
+use Rattle.report_amounts.specs.flow_rules.Net.{net_of, materials_of}
+use Rattle.report_amounts.proofs.Cited.{materials_are, mats_known}
+use Rattle.report_amounts.specs.problem_rules.Problem.{Problem}
+use Rattle.report_amounts.specs.report_rules.Graph.{head_lines, total_lines, list_lines}
+use Rattle.report_amounts.specs.report_rules.Graph.{material_line, unit_lines}
+use Rattle.report_amounts.specs.report_rules.Graph.{last_lines}
 use Rattle.graph_text.specs.Kept.{picture_of}
 use Rattle.graph_text.proofs.Lines.{parts_printed}
 use Rattle.graph_text.proofs.text.push_picture.Goals as goal

@@ -1,7 +1,7 @@
 use Rattle.std.proofs.Common.{◌≡◌, ◌∙◌, ◌++◌, sym, ap, ℕ, List, string_bytes}
-use Rattle.pns_problem.specs.Printing.{printed}
-use Rattle.pns_problem.proofs.PrintingLemmas.{after}
-use Rattle.report_rules.specs.Graph.{legend, rate_legend}
+use Rattle.report_amounts.specs.pns_problem.Printing.{printed}
+use Rattle.report_amounts.proofs.pns_problem.Cited.{after}
+use Rattle.report_amounts.specs.report_rules.Graph.{legend, rate_legend}
 use Rattle.graph_text.proofs.Lines.{printed-append}
 use Rattle.graph_text.proofs.text.push_rate_legend.Goals as goal
 

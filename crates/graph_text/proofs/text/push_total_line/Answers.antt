@@ -2,7 +2,7 @@ use Rattle.std.proofs.Common.{◌≡◌, ◌∙◌, ◌++◌, ◌∷◌, [], cod
 use Rattle.std.proofs.Common.{ℕ, arith}
 use Rattle.std.specs.Int.{w128}
 use Rattle.std.proofs.lemmas.Int.{to_z-of_z}
-use Rattle.report_rules.specs.Graph.{cost_text, sort_words}
+use Rattle.report_amounts.specs.report_rules.Graph.{cost_text, sort_words}
 use Rattle.graph_text.proofs.Lines.{after_four, line_end}
 use Rattle.graph_text.proofs.text.push_total_line.Goals as goal
 

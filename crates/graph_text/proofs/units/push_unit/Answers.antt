@@ -1,8 +1,8 @@
 use Rattle.std.proofs.Common.{◌≡◌, ◌∙◌, ◌++◌, ap, codes, ℕ, List, string_bytes}
-use Rattle.problem_rules.specs.Problem.{Problem, OperatingUnit, unit_at}
-use Rattle.report_rules.specs.declared.role.Role.{Role}
-use Rattle.report_rules.specs.Drawn.{unit_size, role_of}
-use Rattle.report_rules.specs.Graph.{node, unit_node, unit_tip, look_words}
+use Rattle.report_amounts.specs.problem_rules.Problem.{Problem, OperatingUnit, unit_at}
+use Rattle.report_amounts.specs.report_rules.declared.role.Role.{Role}
+use Rattle.report_amounts.specs.report_rules.Drawn.{unit_size, role_of}
+use Rattle.report_amounts.specs.report_rules.Graph.{node, unit_node, unit_tip, look_words}
 use Rattle.graph_text.proofs.Lines.{node_line_of}
 use Rattle.graph_text.proofs.units.push_unit.Goals as goal
 

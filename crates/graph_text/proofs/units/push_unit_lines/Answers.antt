@@ -1,8 +1,8 @@
 use Rattle.std.proofs.Common.{◌≡◌, ◌∙◌, ◌++◌, ◌∷◌, [], sym, ap, map, arith, ℕ, List, string_bytes}
-use Rattle.problem_rules.specs.Problem.{Problem, OperatingUnit, Term, unit_at}
-use Rattle.pns_problem.specs.Printing.{printed}
-use Rattle.pns_problem.proofs.PrintingLemmas.{after}
-use Rattle.report_rules.specs.Graph.{unit_line, input_line, output_line}
+use Rattle.report_amounts.specs.problem_rules.Problem.{Problem, OperatingUnit, Term, unit_at}
+use Rattle.report_amounts.specs.pns_problem.Printing.{printed}
+use Rattle.report_amounts.proofs.pns_problem.Cited.{after}
+use Rattle.report_amounts.specs.report_rules.Graph.{unit_line, input_line, output_line}
 use Rattle.graph_text.specs.Kept.{picture_of}
 use Rattle.graph_text.proofs.Lines.{on_ok, printed-append}
 use Rattle.graph_text.proofs.units.push_unit_lines.Goals as goal

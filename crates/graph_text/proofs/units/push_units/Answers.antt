@@ -1,9 +1,9 @@
 use Rattle.std.proofs.Common.{◌++◌, string_bytes}
-use Rattle.number_sets.specs.Sets.{has}
-use Rattle.report_amounts.proofs.Walk.{next_within, rest_within}
+use Rattle.report_amounts.specs.number_sets.Sets.{has}
+use Rattle.report_amounts.proofs.Cited.{next_within, rest_within}
 use Rattle.std.specs.Prelude.{flat_map}
-use Rattle.pns_problem.specs.Printing.{printed}
-use Rattle.report_rules.specs.Graph.{unit_lines}
+use Rattle.report_amounts.specs.pns_problem.Printing.{printed}
+use Rattle.report_amounts.specs.report_rules.Graph.{unit_lines}
 use Rattle.graph_text.specs.Kept.{picture_of}
 use Rattle.graph_text.proofs.Lines.{next_lines}
 use Rattle.graph_text.proofs.units.push_units.Goals as goal

@@ -1,8 +1,8 @@
 use Rattle.std.proofs.Common.{◌≡◌, ◌++◌, string_bytes}
 use Rattle.std.specs.Prelude.{flat_map}
-use Rattle.number_sets.specs.Sets.{has, IsWithin}
-use Rattle.pns_problem.specs.Printing.{printed}
-use Rattle.report_rules.specs.Graph.{unit_lines}
+use Rattle.report_amounts.specs.number_sets.Sets.{has, IsWithin}
+use Rattle.report_amounts.specs.pns_problem.Printing.{printed}
+use Rattle.report_amounts.specs.report_rules.Graph.{unit_lines}
 use Rattle.graph_text.specs.Kept.{picture_of}
 use Rattle.graph_text.proofs.units.push_units.Given as goal
 

@@ -1,5 +1,5 @@
-use Rattle.pgraph.specs.CoversView.{covers_of}
-use Rattle.pgraph.specs.Kept.{AreKept}
+use Rattle.tree_parts.specs.pgraph.CoversView.{covers_of}
+use Rattle.tree_parts.specs.pgraph.Kept.{AreKept}
 use Rattle.headed_search.proofs.evidence.kept_covers.Given as goal
 
 abbrev pub invariant-covers : goal.invariant-covers

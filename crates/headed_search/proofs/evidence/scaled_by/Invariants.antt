@@ -1,5 +1,5 @@
 use Rattle.std.proofs.Common.{◌<◌, length}
-use Rattle.integer_laws.specs.Range.{AllInRange}
+use Rattle.tree_parts.specs.integer_laws.Range.{AllInRange}
 use Rattle.headed_search.proofs.evidence.scaled_by.Given as goal
 
 abbrev pub invariant-multipliers : goal.invariant-multipliers

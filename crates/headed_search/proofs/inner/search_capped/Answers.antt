@@ -1,5 +1,5 @@
-use Rattle.pgraph.specs.View.{node_of}
-use Rattle.tree_rules.specs.Claim as claims
+use Rattle.tree_parts.specs.pgraph.View.{node_of}
+use Rattle.tree_parts.specs.tree_rules.Claim as claims
 use Rattle.headed_search.proofs.LeanLemmas.{lean_outside}
 use Rattle.headed_search.proofs.inner.search_capped.Goals as goal
 

@@ -1,9 +1,9 @@
 use Rattle.std.proofs.Common.{ℕ, List, drop, sym, subst, add-one}
-use Rattle.problem_rules.specs.Each.{Each}
-use Rattle.tree_rules.specs.Known.{KnowsCover}
-use Rattle.pgraph.specs.CoversView.{cover_of, covers_of}
-use Rattle.flow_rules.specs.Cover.{Cover}
-use Rattle.cert_check.proofs.NodeLemmas.{step_ahead, none_ahead}
+use Rattle.tree_parts.specs.problem_rules.Each.{Each}
+use Rattle.tree_parts.specs.tree_rules.Known.{KnowsCover}
+use Rattle.tree_parts.specs.pgraph.CoversView.{cover_of, covers_of}
+use Rattle.tree_parts.specs.flow_rules.Cover.{Cover}
+use Rattle.tree_parts.proofs.cert_check.Cited.{step_ahead, none_ahead}
 use Rattle.headed_search.proofs.numbers.knows_covers.Goals as goal
 
 pub covers-init : goal.covers-init

@@ -1,7 +1,7 @@
 use Rattle.std.proofs.Common.{drop}
-use Rattle.problem_rules.specs.Each.{Each}
-use Rattle.tree_rules.specs.Known.{KnowsCover}
-use Rattle.pgraph.specs.CoversView.{covers_of}
+use Rattle.tree_parts.specs.problem_rules.Each.{Each}
+use Rattle.tree_parts.specs.tree_rules.Known.{KnowsCover}
+use Rattle.tree_parts.specs.pgraph.CoversView.{covers_of}
 use Rattle.headed_search.proofs.numbers.knows_covers.Given as goal
 
 -- if the plant knows those that are left, it knows all

@@ -1,9 +1,9 @@
 use Rattle.std.proofs.Common.{ℕ, List, drop, sym, subst, add-one}
-use Rattle.problem_rules.specs.Each.{Each}
-use Rattle.tree_rules.specs.HeadKnown.{KnowsLine}
-use Rattle.branch_tree.specs.HeadView.{line_of, lines_of}
-use Rattle.tree_rules.specs.Head.{HeadLine}
-use Rattle.cert_check.proofs.NodeLemmas.{step_ahead, none_ahead}
+use Rattle.tree_parts.specs.problem_rules.Each.{Each}
+use Rattle.tree_parts.specs.tree_rules.HeadKnown.{KnowsLine}
+use Rattle.tree_parts.specs.branch_tree.HeadView.{line_of, lines_of}
+use Rattle.tree_parts.specs.tree_rules.Head.{HeadLine}
+use Rattle.tree_parts.proofs.cert_check.Cited.{step_ahead, none_ahead}
 use Rattle.headed_search.proofs.numbers.knows_lines.Goals as goal
 
 pub lines-init : goal.lines-init

@@ -1,7 +1,7 @@
 use Rattle.std.proofs.Common.{drop}
-use Rattle.problem_rules.specs.Each.{Each}
-use Rattle.tree_rules.specs.HeadKnown.{KnowsLine}
-use Rattle.branch_tree.specs.HeadView.{lines_of}
+use Rattle.tree_parts.specs.problem_rules.Each.{Each}
+use Rattle.tree_parts.specs.tree_rules.HeadKnown.{KnowsLine}
+use Rattle.tree_parts.specs.branch_tree.HeadView.{lines_of}
 use Rattle.headed_search.proofs.numbers.knows_lines.Given as goal
 
 -- if the plant knows those that are left, it knows all

@@ -1,5 +1,5 @@
 use Rattle.std.proofs.Common.{◌∙◌, length, ap}
-use Rattle.pns_rules.specs.Shape.{Shape}
+use Rattle.tree_parts.specs.pns_rules.Shape.{Shape}
 use Rattle.headed_search.proofs.SetLemmas.{set_known}
 use Rattle.headed_search.proofs.numbers.knows_units.Goals as goal
 

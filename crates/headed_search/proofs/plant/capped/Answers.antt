@@ -1,9 +1,9 @@
 use Rattle.std.proofs.Common.{◌<◌, List, length, sym, ap, subst, arith, ℤ, SFits, rules}
 use Rattle.std.proofs.Common.{w64, ◌∙◌}
 use Rattle.std.proofs.lemmas.Int.{to_z-of_z}
-use Rattle.problem_rules.specs.Problem.{Problem, OperatingUnit}
-use Rattle.tree_laws.specs.Capped.{IsCapped}
-use Rattle.tree_laws.proofs.CappedLemmas.{capped_length}
+use Rattle.tree_parts.specs.problem_rules.Problem.{Problem, OperatingUnit}
+use Rattle.tree_parts.specs.tree_laws.Capped.{IsCapped}
+use Rattle.tree_parts.proofs.tree_laws.Cited.{capped_length}
 use Rattle.headed_search.proofs.CapLemmas.{with_upper, itself, size_there, capped_more}
 use Rattle.headed_search.proofs.plant.capped.Goals as goal
 

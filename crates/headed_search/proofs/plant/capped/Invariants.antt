@@ -1,4 +1,4 @@
-use Rattle.tree_laws.specs.Capped.{IsCapped}
+use Rattle.tree_parts.specs.tree_laws.Capped.{IsCapped}
 use Rattle.headed_search.proofs.plant.capped.Given as goal
 
 abbrev pub invariant-capping : goal.invariant-capping

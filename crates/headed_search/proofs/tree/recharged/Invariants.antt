@@ -1,6 +1,6 @@
 use Rattle.std.proofs.Common.{◌≡◌, ◌++◌, length, map}
 use Rattle.std.specs.Vec.Iter.{into_iter_items, into_iter_len}
-use Rattle.tree_laws.specs.Recharged.{recharged_node}
+use Rattle.tree_parts.specs.tree_laws.Recharged.{recharged_node}
 use Rattle.headed_search.proofs.tree.recharged.Given as goal
 
 abbrev pub invariant-charging : goal.invariant-charging

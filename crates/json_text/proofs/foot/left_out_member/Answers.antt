@@ -1,5 +1,5 @@
 use Rattle.std.proofs.Common.{◌≡◌, ◌∙◌, ap, map, ℕ, List, codes}
-use Rattle.problem_rules.specs.Problem.{Problem}
+use Rattle.report_rules.specs.problem_rules.Problem.{Problem}
 use Rattle.report_rules.specs.Report.{left_out}
 use Rattle.report_rules.specs.Json.{member, array}
 use Rattle.report_rules.specs.Facts.{unit_name}

@@ -1,5 +1,5 @@
 use Rattle.std.proofs.Common.{◌≡◌, ◌∷◌, [], ◌∙◌, ap, ℕ, List, codes}
-use Rattle.problem_rules.specs.Problem.{Problem}
+use Rattle.report_rules.specs.problem_rules.Problem.{Problem}
 use Rattle.report_rules.specs.Json.{member, object}
 use Rattle.report_rules.specs.Facts.{number_member, total}
 use Rattle.json_text.proofs.foot.money_member.Goals as goal

@@ -1,5 +1,5 @@
 use Rattle.std.proofs.Common.{◌∷◌, [], ◌++◌, ◌∙◌, ap, map, ℕ, List}
-use Rattle.pns_problem.specs.Printing.{printed}
+use Rattle.tree_reading.specs.pns_problem.Printing.{printed}
 use Rattle.report_rules.specs.Json.{with_comma}
 use Rattle.report_rules.specs.Facts.{money_member, once_member, left_out_member}
 use Rattle.json_text.proofs.Pieces.{three_blocks}

@@ -1,5 +1,5 @@
 use Rattle.std.proofs.Common.{◌<◌, ◌∙◌, sym, ap, subst, length}
-use Rattle.problem_rules.specs.Problem.{Problem}
+use Rattle.report_rules.specs.problem_rules.Problem.{Problem}
 use Rattle.report_rules.specs.Number.{Number}
 use Rattle.report_rules.specs.Amounts.{unit_sum}
 use Rattle.report_rules.specs.Facts.{number_member}

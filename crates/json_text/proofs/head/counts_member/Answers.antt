@@ -1,7 +1,7 @@
 use Rattle.std.proofs.Common.{◌≡◌, ◌∷◌, [], ◌∙◌, ap, ℕ, List, codes, length}
-use Rattle.number_sets.specs.Sets.{has}
-use Rattle.problem_rules.specs.Problem.{Problem}
-use Rattle.flow_rules.specs.Net.{net_of, materials_of}
+use Rattle.report_rules.specs.number_sets.Sets.{has}
+use Rattle.report_rules.specs.problem_rules.Problem.{Problem}
+use Rattle.report_rules.specs.flow_rules.Net.{net_of, materials_of}
 use Rattle.report_rules.specs.Json.{member, object}
 use Rattle.report_rules.specs.Facts.{count_member}
 use Rattle.json_text.proofs.head.counts_member.Goals as goal

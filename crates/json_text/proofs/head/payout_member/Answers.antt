@@ -1,5 +1,5 @@
 use Rattle.std.proofs.Common.{◌∙◌, ap, ℕ, codes, unsigned_abs}
-use Rattle.problem_rules.specs.Problem.{Problem}
+use Rattle.report_rules.specs.problem_rules.Problem.{Problem}
 use Rattle.report_rules.specs.Facts.{count_member}
 use Rattle.json_text.proofs.head.payout_member.Goals as goal
 

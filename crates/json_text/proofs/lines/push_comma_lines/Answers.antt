@@ -1,5 +1,5 @@
 use Rattle.std.proofs.Common.{◌≡◌, ◌++◌, ◌∷◌, [], ◌∙◌, sym, ap, map, ℕ, List}
-use Rattle.pns_problem.specs.Printing.{printed}
+use Rattle.tree_reading.specs.pns_problem.Printing.{printed}
 use Rattle.report_rules.specs.Json.{with_comma, comma_lines}
 use Rattle.json_text.proofs.Pieces.{on_ok, two_blocks, comma_lines_last}
 use Rattle.json_text.proofs.lines.push_comma_lines.Goals as goal

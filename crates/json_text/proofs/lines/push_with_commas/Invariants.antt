@@ -1,4 +1,4 @@
-use Rattle.pns_problem.proofs.Printed.{AreLinesPrinted}
+use Rattle.tree_reading.proofs.pns_problem.Cited.{AreLinesPrinted}
 use Rattle.report_rules.specs.Json.{with_comma}
 use Rattle.json_text.proofs.lines.push_with_commas.Given as goal
 

@@ -1,5 +1,5 @@
 use Rattle.std.proofs.Common.{◌≡◌, ◌∷◌, [], ◌∙◌, ap, ℕ, List, codes}
-use Rattle.problem_rules.specs.Problem.{material_at}
+use Rattle.report_rules.specs.problem_rules.Problem.{material_at}
 use Rattle.report_rules.specs.Number.{Number}
 use Rattle.report_rules.specs.declared.amount.UnitAmount.TheVariants.{Made, Used}
 use Rattle.report_rules.specs.Amounts.{unit_sum, net, price, cost}

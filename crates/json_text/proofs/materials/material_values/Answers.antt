@@ -1,11 +1,11 @@
 use Rattle.std.proofs.Common.{◌≡◌, ◌<◌, ◌∙◌, ◌++◌, ◌∷◌, [], sym, ap, subst, true, length, map}
-use Rattle.number_sets.specs.Sets.{has}
-use Rattle.problem_rules.specs.Problem.{Problem}
-use Rattle.flow_rules.specs.Net.{net_of, materials_of}
-use Rattle.tree_rules.specs.Claim.{IsFeasible}
+use Rattle.report_rules.specs.number_sets.Sets.{has}
+use Rattle.report_rules.specs.problem_rules.Problem.{Problem}
+use Rattle.report_rules.specs.flow_rules.Net.{net_of, materials_of}
+use Rattle.report_rules.specs.tree_rules.Claim.{IsFeasible}
 use Rattle.report_rules.specs.Facts.{material_json}
-use Rattle.report_amounts.proofs.Walk.{all_within, next_within, rest_within}
-use Rattle.report_amounts.proofs.Known.{material_known}
+use Rattle.report_tables.proofs.report_amounts.Cited.{all_within, next_within, rest_within}
+use Rattle.report_tables.proofs.report_amounts.Cited.{material_known}
 use Rattle.json_text.proofs.Values.{next_value, last_value}
 use Rattle.json_text.proofs.materials.material_values.Goals as goal
 

@@ -1,6 +1,6 @@
 use Rattle.std.proofs.Common.{◌≡◌, ◌++◌, map}
-use Rattle.number_sets.specs.Sets.{has, IsWithin}
-use Rattle.flow_rules.specs.Net.{net_of, materials_of}
+use Rattle.report_rules.specs.number_sets.Sets.{has, IsWithin}
+use Rattle.report_rules.specs.flow_rules.Net.{net_of, materials_of}
 use Rattle.report_rules.specs.Facts.{material_json}
 use Rattle.json_text.proofs.materials.material_values.Given as goal
 

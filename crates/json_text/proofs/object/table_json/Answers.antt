@@ -1,5 +1,5 @@
 use Rattle.std.proofs.Common.{◌≡◌, ◌++◌, ◌∷◌, [], ◌∙◌, ap, ℕ, List, codes}
-use Rattle.pns_problem.specs.Printing.{printed}
+use Rattle.tree_reading.specs.pns_problem.Printing.{printed}
 use Rattle.report_rules.specs.Json.{quoted, with_comma, comma_lines}
 use Rattle.report_rules.specs.Facts.{text_member}
 use Rattle.json_text.proofs.Pieces.{two_blocks, three_blocks}

@@ -1,5 +1,5 @@
 use Rattle.std.proofs.Common.{◌≡◌, ◌∷◌, [], ◌∙◌, ap, ℕ, List, codes}
-use Rattle.number_sets.specs.Sets.{minus}
+use Rattle.report_rules.specs.number_sets.Sets.{minus}
 use Rattle.report_rules.specs.Number.{Number}
 use Rattle.report_rules.specs.Ranked.{above_first}
 use Rattle.report_rules.specs.Json.{object}

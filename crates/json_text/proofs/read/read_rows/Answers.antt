@@ -1,6 +1,6 @@
 use Rattle.std.proofs.Common.{◌≡◌, ◌∙◌, [], false, true, sym, ap, suc, List, Result, ℕ, subst}
 use Rattle.std.proofs.lemmas.Result.{err_from_is_err_and}
-use Rattle.tree_text_rules.specs.Read.{Fault}
+use Rattle.report_rules.specs.tree_text_rules.Read.{Fault}
 use Rattle.tree_reading.specs.Place.{lines_at}
 use Rattle.tree_reading.specs.View.{line_of}
 use Rattle.report_rules.specs.RangeTable.{words_of, has_no_word, rows_taken}

@@ -1,8 +1,8 @@
 use Rattle.std.proofs.Common.{◌≡◌, ◌∙◌, [], Ok, sym, subst, List, Result}
 use Rattle.std.specs.Prelude.{IfOk, IfErr}
-use Rattle.text_lines.specs.Tells.{Tells}
-use Rattle.tree_text_rules.specs.Read.{Fault}
-use Rattle.tree_text_rules.specs.Line.{lines_of}
+use Rattle.tree_reading.specs.text_lines.Tells.{Tells}
+use Rattle.report_rules.specs.tree_text_rules.Read.{Fault}
+use Rattle.report_rules.specs.tree_text_rules.Line.{lines_of}
 use Rattle.tree_reading.specs.Place.{lines_at}
 use Rattle.tree_reading.specs.View.{line_of}
 use Rattle.report_rules.specs.declared.row.Row.{Row}

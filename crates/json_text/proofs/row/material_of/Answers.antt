@@ -1,5 +1,5 @@
 use Rattle.std.proofs.Common.{sym}
-use Rattle.tree_reading.proofs.Naming.{no_material}
+use Rattle.tree_reading.proofs.Cited.{no_material}
 use Rattle.json_text.proofs.row.material_of.Goals as goal
 
 pub returns-in-Err : goal.returns-in-Err

@@ -1,5 +1,5 @@
 use Rattle.std.proofs.Common.{sym}
-use Rattle.tree_reading.proofs.Naming.{no_unit}
+use Rattle.tree_reading.proofs.Cited.{no_unit}
 use Rattle.json_text.proofs.row.unit_of.Goals as goal
 
 pub returns-in-Err : goal.returns-in-Err

@@ -1,5 +1,5 @@
 use Rattle.std.proofs.Common.{◌∷◌, [], ◌++◌, ◌∙◌, ap}
-use Rattle.pns_problem.specs.Printing.{printed}
+use Rattle.tree_reading.specs.pns_problem.Printing.{printed}
 use Rattle.report_rules.specs.Json.{comma_lines}
 use Rattle.json_text.proofs.Pieces.{three_blocks}
 use Rattle.json_text.proofs.text.bare_of.Goals as goal

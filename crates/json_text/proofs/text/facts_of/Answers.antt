@@ -1,6 +1,6 @@
 use Rattle.std.proofs.Common.{◌<◌, ◌++◌, ◌∙◌, sym, ap, subst, length}
-use Rattle.problem_rules.specs.Problem.{Problem}
-use Rattle.pns_problem.specs.Printing.{printed}
+use Rattle.report_rules.specs.problem_rules.Problem.{Problem}
+use Rattle.tree_reading.specs.pns_problem.Printing.{printed}
 use Rattle.report_rules.specs.Facts.{head_lines, unit_lines, material_lines, foot_lines}
 use Rattle.json_text.proofs.Pieces.{four_blocks}
 use Rattle.json_text.proofs.text.facts_of.Goals as goal

@@ -1,5 +1,5 @@
 use Rattle.std.proofs.Common.{◌≡◌, ◌∷◌, [], ◌∙◌, ap, ℕ, List, codes}
-use Rattle.problem_rules.specs.Problem.{unit_at}
+use Rattle.report_rules.specs.problem_rules.Problem.{unit_at}
 use Rattle.report_rules.specs.Number.{Number}
 use Rattle.report_rules.specs.declared.amount.UnitAmount.TheVariants.{Fixed, Proportional}
 use Rattle.report_rules.specs.declared.amount.UnitAmount.TheVariants.{Investment, Total}

@@ -1,7 +1,7 @@
 use Rattle.std.proofs.Common.{◌≡◌, ◌∙◌, ◌++◌, ◌∷◌, [], ap, ℕ, List, map}
-use Rattle.number_sets.specs.Sets.{has}
+use Rattle.report_rules.specs.number_sets.Sets.{has}
 use Rattle.report_rules.specs.Facts.{unit_json}
-use Rattle.report_amounts.proofs.Walk.{all_within, next_within, rest_within}
+use Rattle.report_tables.proofs.report_amounts.Cited.{all_within, next_within, rest_within}
 use Rattle.json_text.proofs.Values.{next_value, last_value}
 use Rattle.json_text.proofs.units.unit_values.Goals as goal
 

@@ -1,5 +1,5 @@
 use Rattle.std.proofs.Common.{◌≡◌, ◌++◌, map}
-use Rattle.number_sets.specs.Sets.{has, IsWithin}
+use Rattle.report_rules.specs.number_sets.Sets.{has, IsWithin}
 use Rattle.report_rules.specs.Facts.{unit_json}
 use Rattle.json_text.proofs.units.unit_values.Given as goal
 

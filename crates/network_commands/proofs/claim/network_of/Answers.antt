@@ -1,14 +1,14 @@
 use Rattle.std.proofs.Common.{refl, sym, subst, ℕ, List}
-use Rattle.branch_tree.specs.View.{claim_of}
-use Rattle.branch_tree.specs.declared.claim.Claim.{Claim}
-use Rattle.tree_rules.specs.declared.why.Why.TheVariants.{Unknown}
-use Rattle.studio_rules.specs.RefusalWords.{claim_line}
-use Rattle.studio_rules.specs.Lines.{line}
-use Rattle.studio_rules.specs.Ending.{Tells, Only, OrMemory}
-use Rattle.studio_rules.specs.declared.status.Status.{Status}
-use Rattle.studio_rules.specs.declared.status.Status.TheVariants.{BadClaim}
-use Rattle.command_files.proofs.Ending.{Ends-map}
-use Rattle.studio_rules.specs.Network.{IsRefusedFor, ClaimRefusal}
+use Rattle.verdicts.specs.branch_tree.View.{claim_of}
+use Rattle.verdicts.specs.branch_tree.declared.claim.Claim.{Claim}
+use Rattle.verdicts.specs.tree_rules.declared.why.Why.TheVariants.{Unknown}
+use Rattle.command_files.specs.studio_rules.RefusalWords.{claim_line}
+use Rattle.command_files.specs.studio_rules.Lines.{line}
+use Rattle.command_files.specs.studio_rules.Ending.{Tells, Only, OrMemory}
+use Rattle.command_files.specs.studio_rules.declared.status.Status.{Status}
+use Rattle.command_files.specs.studio_rules.declared.status.Status.TheVariants.{BadClaim}
+use Rattle.command_files.proofs.Cited.{Ends-map}
+use Rattle.command_files.specs.studio_rules.Network.{IsRefusedFor, ClaimRefusal}
 use Rattle.network_commands.proofs.Refusals.{refused_for, refusal_told}
 use Rattle.network_commands.proofs.claim.network_of.Goals as goal
 

@@ -1,10 +1,10 @@
 use Rattle.std.proofs.Common.{◌++◌, ap, ◌∙◌, inl, inr, ℕ, List, codes}
-use Rattle.studio_rules.specs.RefusalWords.{claim_line}
-use Rattle.studio_rules.specs.Lines.{line}
-use Rattle.studio_rules.specs.Ending.{Only, OrMemory}
-use Rattle.studio_rules.specs.declared.status.Status.{Status}
-use Rattle.studio_rules.specs.declared.status.Status.TheVariants.{BadClaim}
-use Rattle.command_files.proofs.Ending.{Ends-map}
+use Rattle.command_files.specs.studio_rules.RefusalWords.{claim_line}
+use Rattle.command_files.specs.studio_rules.Lines.{line}
+use Rattle.command_files.specs.studio_rules.Ending.{Only, OrMemory}
+use Rattle.command_files.specs.studio_rules.declared.status.Status.{Status}
+use Rattle.command_files.specs.studio_rules.declared.status.Status.TheVariants.{BadClaim}
+use Rattle.command_files.proofs.Cited.{Ends-map}
 use Rattle.network_commands.proofs.claim.say_why.Goals as goal
 
 pub returns : goal.returns

@@ -1,8 +1,8 @@
 use Rattle.std.proofs.Common.{option_map}
-use Rattle.number_sets.specs.Sets.{has}
-use Rattle.pns_rules.specs.Shape.{shape_of}
-use Rattle.pgraph.specs.Tables.{shape}
-use Rattle.studio_rules.proofs.Maximal.{maximal_from, none_from}
+use Rattle.verdicts.specs.number_sets.Sets.{has}
+use Rattle.verdicts.specs.pns_rules.Shape.{shape_of}
+use Rattle.verdicts.specs.pgraph.Tables.{shape}
+use Rattle.command_files.proofs.studio_rules.Cited.{maximal_from, none_from}
 use Rattle.network_commands.proofs.GraphLines.{graph_told, empty_told}
 use Rattle.network_commands.proofs.graph.drawn.Goals as goal
 

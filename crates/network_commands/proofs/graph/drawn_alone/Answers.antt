@@ -1,5 +1,5 @@
 use Rattle.std.proofs.Common.{◌≡◌, subst, true, ℕ, List}
-use Rattle.number_sets.specs.Sets.{has}
+use Rattle.verdicts.specs.number_sets.Sets.{has}
 use Rattle.network_commands.proofs.GraphLines.{alone_told}
 use Rattle.network_commands.proofs.graph.drawn_alone.Goals as goal
 

@@ -1,11 +1,11 @@
 use Rattle.std.proofs.Common.{◌≡◌, ◌∙◌, [], None, refl, inl, subst, ℕ, List, codes}
-use Rattle.problem_rules.specs.Problem.{Problem}
-use Rattle.studio_rules.specs.Lines.{line, text_of}
-use Rattle.studio_rules.specs.Graph.{AreGraphLines, PlantGraphWork}
-use Rattle.studio_rules.specs.Ending.{Tells}
-use Rattle.studio_rules.specs.declared.status.Status.{Status}
-use Rattle.studio_rules.specs.declared.status.Status.TheVariants.{Done, Memory}
-use Rattle.command_files.proofs.Ending.{Ends-map, only_in}
+use Rattle.verdicts.specs.problem_rules.Problem.{Problem}
+use Rattle.command_files.specs.studio_rules.Lines.{line, text_of}
+use Rattle.command_files.specs.studio_rules.Graph.{AreGraphLines, PlantGraphWork}
+use Rattle.command_files.specs.studio_rules.Ending.{Tells}
+use Rattle.command_files.specs.studio_rules.declared.status.Status.{Status}
+use Rattle.command_files.specs.studio_rules.declared.status.Status.TheVariants.{Done, Memory}
+use Rattle.command_files.proofs.Cited.{Ends-map, only_in}
 use Rattle.network_commands.proofs.graph.say_plant.Goals as goal
 
 pub returns-in_default : goal.returns-in_default

@@ -1,7 +1,7 @@
 use Rattle.std.proofs.Common.{◌≡◌, ◌∙◌, sym, subst, Bool}
 use Rattle.std.specs.Prelude.{IfErr}
 use Rattle.std.proofs.lemmas.Result.{IfOk-weaker}
-use Rattle.branch_tree.specs.View.{claim_of}
+use Rattle.verdicts.specs.branch_tree.View.{claim_of}
 use Rattle.verdicts.specs.Unjudged.{IsUnjudgedIf}
 use Rattle.network_commands.proofs.HeadLemmas.{plain_says, headed_says}
 use Rattle.network_commands.proofs.headed.headed_report_text.Goals as goal

@@ -1,7 +1,7 @@
 use Rattle.std.proofs.Common.{◌++◌, ◌∷◌, [], ◌∙◌, ap, ℕ, List, codes, string_bytes, arith}
 use Rattle.std.specs.Prelude.{decimal}
-use Rattle.pns_problem.proofs.PrintingLemmas.{after}
-use Rattle.studio_rules.specs.RefusalWords.{line_word}
+use Rattle.verdicts.proofs.pns_problem.Cited.{after}
+use Rattle.command_files.specs.studio_rules.RefusalWords.{line_word}
 use Rattle.network_commands.proofs.headed.push_failing_head.Goals as goal
 
 pub returns : goal.returns

@@ -1,10 +1,10 @@
 use Rattle.std.proofs.Common.{◌≡◌, sym, subst, ap, None}
 use Rattle.std.specs.Prelude.{IfOk}
-use Rattle.tree_rules.specs.Claim.{Claim}
-use Rattle.branch_tree.specs.View.{claim_of}
-use Rattle.report_rules.specs.Marginal.{Marginals, AreClaimMarginals}
-use Rattle.studio_rules.specs.Lines.{text_of}
-use Rattle.studio_rules.specs.Report.{headed_tables}
+use Rattle.verdicts.specs.tree_rules.Claim.{Claim}
+use Rattle.verdicts.specs.branch_tree.View.{claim_of}
+use Rattle.verdicts.specs.report_rules.Marginal.{Marginals, AreClaimMarginals}
+use Rattle.command_files.specs.studio_rules.Lines.{text_of}
+use Rattle.command_files.specs.studio_rules.Report.{headed_tables}
 use Rattle.network_commands.proofs.headed.tables_of.Goals as goal
 
 pub returns-in-Network : goal.returns-in-Network

@@ -1,10 +1,10 @@
 use Rattle.std.proofs.Common.{◌∙◌, [], refl, inl, ℕ, List, codes}
-use Rattle.studio_rules.specs.Lines.{line}
+use Rattle.command_files.specs.studio_rules.Lines.{line}
 use Rattle.network_commands.specs.Texts.{TextWork}
-use Rattle.studio_rules.specs.Ending.{Tells}
-use Rattle.studio_rules.specs.declared.status.Status.{Status}
-use Rattle.studio_rules.specs.declared.status.Status.TheVariants.{Done, Memory}
-use Rattle.command_files.proofs.Ending.{Ends-map, only_in}
+use Rattle.command_files.specs.studio_rules.Ending.{Tells}
+use Rattle.command_files.specs.studio_rules.declared.status.Status.{Status}
+use Rattle.command_files.specs.studio_rules.declared.status.Status.TheVariants.{Done, Memory}
+use Rattle.command_files.proofs.Cited.{Ends-map, only_in}
 use Rattle.network_commands.proofs.network.say_network.Goals as goal
 
 pub returns-in-Ok : goal.returns-in-Ok

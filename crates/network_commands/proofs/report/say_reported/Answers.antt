@@ -1,15 +1,16 @@
 use Rattle.std.proofs.Common.{◌∷◌, ◌∙◌, [], refl, inl, ℕ, List, codes}
-use Rattle.branch_tree.specs.View.{claim_of}
-use Rattle.tree_reading.specs.Said.{said_by}
-use Rattle.tree_rules.specs.Claim.{ClaimFails}
-use Rattle.report_rules.specs.HeadedVerdict.{is_plain}
-use Rattle.studio_rules.specs.Lines.{line}
-use Rattle.studio_rules.specs.RefusalWords.{claim_line}
-use Rattle.studio_rules.specs.Report.{ReportWork}
-use Rattle.studio_rules.specs.Ending.{Tells}
-use Rattle.studio_rules.specs.declared.status.Status.{Status}
-use Rattle.studio_rules.specs.declared.status.Status.TheVariants.{Done, BadClaim, Memory}
-use Rattle.command_files.proofs.Ending.{Ends-map, only_in, only_or_memory_in, one_line}
+use Rattle.verdicts.specs.branch_tree.View.{claim_of}
+use Rattle.verdicts.specs.tree_reading.Said.{said_by}
+use Rattle.verdicts.specs.tree_rules.Claim.{ClaimFails}
+use Rattle.verdicts.specs.report_rules.HeadedVerdict.{is_plain}
+use Rattle.command_files.specs.studio_rules.Lines.{line}
+use Rattle.command_files.specs.studio_rules.RefusalWords.{claim_line}
+use Rattle.command_files.specs.studio_rules.Report.{ReportWork}
+use Rattle.command_files.specs.studio_rules.Ending.{Tells}
+use Rattle.command_files.specs.studio_rules.declared.status.Status.{Status}
+use Rattle.command_files.specs.studio_rules.declared.status.Status.TheVariants.{Done, BadClaim}
+use Rattle.command_files.specs.studio_rules.declared.status.Status.TheVariants.{Memory}
+use Rattle.command_files.proofs.Cited.{Ends-map, only_in, only_or_memory_in, one_line}
 use Rattle.network_commands.proofs.report.say_reported.Goals as goal
 
 pub returns-in-Ok : goal.returns-in-Ok

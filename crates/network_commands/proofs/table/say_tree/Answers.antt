@@ -1,13 +1,12 @@
 use Rattle.std.proofs.Common.{◌≡◌, inl, inr, ℕ, List}
-use Rattle.branch_tree.specs.View.{claim_of}
-use Rattle.tree_reading.specs.Said.{said_by}
-use Rattle.studio_rules.specs.HeadedFile.{AnyHead, OnHeaded, HeadedFault, HeadedSays}
-use Rattle.studio_rules.specs.Network.{OnNetwork}
-use Rattle.studio_rules.specs.Table.{TableWork}
-use Rattle.studio_rules.specs.Ending.{Says}
-use Rattle.studio_rules.specs.declared.status.Status.{Status}
-use Rattle.command_files.proofs.Ending.{Ends-map, Ends-from, Says-told}
-use Rattle.command_files.proofs.Seconds.{on_second-faults}
+use Rattle.verdicts.specs.branch_tree.View.{claim_of}
+use Rattle.verdicts.specs.tree_reading.Said.{said_by}
+use Rattle.command_files.specs.studio_rules.HeadedFile.{AnyHead, OnHeaded, HeadedFault, HeadedSays}
+use Rattle.command_files.specs.studio_rules.Network.{OnNetwork}
+use Rattle.command_files.specs.studio_rules.Table.{TableWork}
+use Rattle.command_files.specs.studio_rules.Ending.{Says}
+use Rattle.command_files.specs.studio_rules.declared.status.Status.{Status}
+use Rattle.command_files.proofs.Cited.{Ends-map, Ends-from, Says-told, on_second-faults}
 use Rattle.network_commands.proofs.table.say_tree.Goals as goal
 
 pub returns-in-Ok-clause-ends : goal.returns-in-Ok-clause-ends

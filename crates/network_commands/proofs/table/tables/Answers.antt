@@ -1,8 +1,8 @@
 use Rattle.std.proofs.Common.{◌≡◌, ◌++◌, ◌∷◌, ◌∙◌, [], sym, ap, subst, ℕ, List, length}
-use Rattle.number_sets.proofs.SetLemmas.{below_from}
-use Rattle.problem_rules.specs.Problem.{Problem}
-use Rattle.tree_rules.specs.Known.{AreUnits}
-use Rattle.report_rules.specs.Table.{IsUnitTable}
+use Rattle.verdicts.proofs.number_sets.Cited.{below_from}
+use Rattle.verdicts.specs.problem_rules.Problem.{Problem}
+use Rattle.verdicts.specs.tree_rules.Known.{AreUnits}
+use Rattle.verdicts.specs.report_rules.Table.{IsUnitTable}
 use Rattle.network_commands.proofs.TableLines.{tables_told}
 use Rattle.network_commands.proofs.table.tables.Goals as goal
 

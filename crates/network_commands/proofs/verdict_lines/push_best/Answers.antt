@@ -1,7 +1,7 @@
 use Rattle.std.proofs.Common.{◌++◌, codes, string_bytes}
-use Rattle.pns_problem.proofs.PrintingLemmas.{after}
-use Rattle.report_rules.specs.Report.{total_cell}
-use Rattle.studio_rules.specs.Report.{low_words, gap_behind}
+use Rattle.verdicts.proofs.pns_problem.Cited.{after}
+use Rattle.verdicts.specs.report_rules.Report.{total_cell}
+use Rattle.command_files.specs.studio_rules.Report.{low_words, gap_behind}
 use Rattle.network_commands.proofs.verdict_lines.push_best.Goals as goal
 
 pub returns : goal.returns

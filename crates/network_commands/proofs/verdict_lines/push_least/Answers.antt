@@ -1,6 +1,6 @@
 use Rattle.std.proofs.Common.{◌++◌, codes, string_bytes}
-use Rattle.pns_problem.proofs.PrintingLemmas.{after}
-use Rattle.report_rules.specs.Report.{total_cell}
+use Rattle.verdicts.proofs.pns_problem.Cited.{after}
+use Rattle.verdicts.specs.report_rules.Report.{total_cell}
 use Rattle.network_commands.proofs.verdict_lines.push_least.Goals as goal
 
 pub returns : goal.returns

@@ -1,8 +1,8 @@
 use Rattle.std.proofs.Common.{◌++◌, ◌∙◌, sym, ap, Option, codes, string_bytes}
-use Rattle.pns_problem.proofs.PrintingLemmas.{after}
-use Rattle.report_rules.specs.Lower.{low_cell}
-use Rattle.report_rules.specs.declared.lower_bound.LowerBound.{LowerBound}
-use Rattle.studio_rules.specs.Report.{low_words}
+use Rattle.verdicts.proofs.pns_problem.Cited.{after}
+use Rattle.verdicts.specs.report_rules.Lower.{low_cell}
+use Rattle.verdicts.specs.report_rules.declared.lower_bound.LowerBound.{LowerBound}
+use Rattle.command_files.specs.studio_rules.Report.{low_words}
 use Rattle.network_commands.proofs.verdict_lines.push_low_words.Goals as goal
 
 pub returns : goal.returns

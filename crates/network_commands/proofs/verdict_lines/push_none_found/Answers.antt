@@ -1,6 +1,6 @@
 use Rattle.std.proofs.Common.{codes, string_bytes}
-use Rattle.pns_problem.proofs.PrintingLemmas.{after}
-use Rattle.studio_rules.specs.Report.{low_words}
+use Rattle.verdicts.proofs.pns_problem.Cited.{after}
+use Rattle.command_files.specs.studio_rules.Report.{low_words}
 use Rattle.network_commands.proofs.verdict_lines.push_none_found.Goals as goal
 
 pub returns : goal.returns

@@ -1,11 +1,11 @@
 use Rattle.std.proofs.Common.{◌≡◌, sym, subst, ap, None}
 use Rattle.std.specs.Prelude.{IfOk}
 use Rattle.std.proofs.lemmas.Result.{IfOk-weaker}
-use Rattle.tree_rules.specs.Claim.{Claim}
-use Rattle.branch_tree.specs.View.{claim_of}
-use Rattle.report_rules.specs.Marginal.{Marginals, AreClaimMarginals}
-use Rattle.studio_rules.specs.Lines.{text_of}
-use Rattle.studio_rules.specs.Report.{tables_of}
+use Rattle.verdicts.specs.tree_rules.Claim.{Claim}
+use Rattle.verdicts.specs.branch_tree.View.{claim_of}
+use Rattle.verdicts.specs.report_rules.Marginal.{Marginals, AreClaimMarginals}
+use Rattle.command_files.specs.studio_rules.Lines.{text_of}
+use Rattle.command_files.specs.studio_rules.Report.{tables_of}
 use Rattle.network_commands.proofs.verdict_lines.tables_of.Goals as goal
 
 pub returns-in-Network : goal.returns-in-Network

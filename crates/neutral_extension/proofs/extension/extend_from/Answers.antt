@@ -1,12 +1,12 @@
 use Rattle.std.proofs.Common.{◌≡◌, ◌<◌, ℕ, List, [], ◌∷◌, ◌++◌, map, length, refl, sym, ap, ◌∙◌}
 use Rattle.std.proofs.Common.{subst}
 use Rattle.std.proofs.lemmas.List.{map-append}
-use Rattle.number_sets.specs.Sets.{listed, minus}
+use Rattle.pgraph.specs.number_sets.Sets.{listed, minus}
 use Rattle.pgraph.specs.Tables.{shape}
 use Rattle.pgraph.specs.View.{node_of, step_of}
-use Rattle.pns_rules.specs.Ends.{IsSound, Leads}
-use Rattle.problem_rules.specs.Each.{Each}
-use Rattle.pns_rules.specs.Nodes.{Step, after, is_free}
+use Rattle.pgraph.specs.pns_rules.Ends.{IsSound, Leads}
+use Rattle.pgraph.specs.problem_rules.Each.{Each}
+use Rattle.pgraph.specs.pns_rules.Nodes.{Step, after, is_free}
 use Rattle.neutral_extension.specs.Moves.{HasSet}
 use Rattle.neutral_extension.specs.Candidates.{Candidates}
 use Rattle.neutral_extension.proofs.LeadLemmas.{Each-push}

@@ -1,11 +1,11 @@
 use Rattle.std.proofs.Common.{◌≡◌, map, length}
-use Rattle.number_sets.specs.Sets.{has, listed}
+use Rattle.pgraph.specs.number_sets.Sets.{has, listed}
 use Rattle.pgraph.specs.Tables.{shape}
 use Rattle.pgraph.specs.View.{node_of, step_of}
-use Rattle.pns_rules.specs.Ends.{IsSound, Leads}
-use Rattle.pns_rules.specs.Nodes.{is_free}
+use Rattle.pgraph.specs.pns_rules.Ends.{IsSound, Leads}
+use Rattle.pgraph.specs.pns_rules.Nodes.{is_free}
 use Rattle.neutral_extension.specs.Candidates.{IsFront}
-use Rattle.problem_rules.specs.Each.{Each}
+use Rattle.pgraph.specs.problem_rules.Each.{Each}
 use Rattle.neutral_extension.specs.Moves.{HasSet}
 use Rattle.neutral_extension.specs.OpenLeaf.{Stands, Follows, AllLead}
 use Rattle.neutral_extension.proofs.extension.extend_from.Given as goal

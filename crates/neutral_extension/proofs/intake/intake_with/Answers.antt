@@ -1,5 +1,5 @@
 use Rattle.pgraph.specs.Tables.{shape}
-use Rattle.number_sets.specs.Sets.{has}
+use Rattle.pgraph.specs.number_sets.Sets.{has}
 use Rattle.neutral_extension.proofs.LeafLemmas.{needed_is}
 use Rattle.neutral_extension.proofs.intake.intake_with.Goals as goal
 

@@ -1,8 +1,8 @@
 use Rattle.std.proofs.Common.{◌<◌, ◌≤◌, ◌+◌, ℕ, List, length, refl, sym, ap, ◌∙◌, subst, arith}
-use Rattle.number_sets.proofs.OptionLemmas.{first_none}
+use Rattle.pgraph.proofs.number_sets.Cited.{first_none}
 use Rattle.link_lists.specs.Lists.{Rows, relinked, IsTop}
 use Rattle.pgraph.specs.Tables.{shape}
-use Rattle.pgraph.proofs.ArcLemmas.{first_shorter}
+use Rattle.pgraph.proofs.Cited.{first_shorter}
 use Rattle.neutral_extension.specs.Cells.{cell_at, unit_cells, out_cells, AreFrom}
 use Rattle.neutral_extension.proofs.OutLemmas.{out_cells_push, cells_more, back_one, from_none}
 use Rattle.neutral_extension.proofs.OutLemmas.{from_made, from_cells, from_more}

@@ -1,7 +1,7 @@
 use Rattle.std.proofs.Common.{◌∙◌, ◌++◌, map, length, ap, subst}
-use Rattle.number_sets.specs.Sets.{IsSet}
+use Rattle.pgraph.specs.number_sets.Sets.{IsSet}
 use Rattle.link_lists.specs.Lists.{Rows, row}
-use Rattle.link_lists.proofs.Cells.{length-pushed}
+use Rattle.link_lists.proofs.Cited.{length-pushed}
 use Rattle.neutral_extension.specs.Cells.{cell_at}
 use Rattle.neutral_extension.proofs.KeptLemmas.{fill_free, fill_here, fill_others}
 use Rattle.neutral_extension.proofs.makers.fill.Goals as goal

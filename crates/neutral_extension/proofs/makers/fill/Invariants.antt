@@ -1,5 +1,5 @@
 use Rattle.std.proofs.Common.{◌≡◌, ℕ, [], ◌++◌, map, length}
-use Rattle.number_sets.specs.Sets.{IsSet}
+use Rattle.pgraph.specs.number_sets.Sets.{IsSet}
 use Rattle.link_lists.specs.Lists.{row}
 use Rattle.neutral_extension.specs.Cells.{cell_at}
 use Rattle.neutral_extension.proofs.makers.fill.Given as goal

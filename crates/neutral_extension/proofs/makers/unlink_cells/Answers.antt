@@ -1,5 +1,5 @@
 use Rattle.std.proofs.Common.{◌≡◌, ◌+◌, ℕ, List, Some, sym, ap, ◌∙◌, subst, arith}
-use Rattle.number_sets.specs.Sets.{has, first, IsSet}
+use Rattle.pgraph.specs.number_sets.Sets.{has, first, IsSet}
 use Rattle.link_lists.specs.Lists.{Rows, unlinked, IsListed}
 use Rattle.pgraph.specs.Tables.{shape}
 use Rattle.neutral_extension.specs.Cells.{cell_at, unit_cells, out_cells}

@@ -1,5 +1,5 @@
 use Rattle.std.proofs.Common.{◌≡◌, ◌≤◌, ℕ}
-use Rattle.number_sets.specs.Sets.{IsSet}
+use Rattle.pgraph.specs.number_sets.Sets.{IsSet}
 use Rattle.pgraph.specs.Tables.{shape}
 use Rattle.neutral_extension.specs.Cells.{unit_cells, out_cells, AreFrom}
 use Rattle.neutral_extension.proofs.makers.unlink_cells.Given as goal

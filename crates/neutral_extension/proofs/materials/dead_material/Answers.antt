@@ -1,5 +1,5 @@
 use Rattle.std.proofs.Common.{sym, subst, MatchOption}
-use Rattle.pns_rules.specs.Ends.{IsDead, IsFirst, IsNever}
+use Rattle.pgraph.specs.pns_rules.Ends.{IsDead, IsFirst, IsNever}
 use Rattle.pgraph.specs.Tables.{shape}
 use Rattle.pgraph.specs.View.{node_of}
 use Rattle.neutral_extension.proofs.FindLemmas.{dead_found}

@@ -1,8 +1,8 @@
 use Rattle.std.proofs.Common.{◌≡◌, ℕ, true, refl, sym, ap, ◌∙◌, subst}
-use Rattle.number_sets.specs.Sets.{has}
-use Rattle.pns_rules.specs.Nodes.{Node}
-use Rattle.pns_rules.specs.Ends.{IsSound}
-use Rattle.pns_rules.specs.Structure.{is_used}
+use Rattle.pgraph.specs.number_sets.Sets.{has}
+use Rattle.pgraph.specs.pns_rules.Nodes.{Node}
+use Rattle.pgraph.specs.pns_rules.Ends.{IsSound}
+use Rattle.pgraph.specs.pns_rules.Structure.{is_used}
 use Rattle.pgraph.specs.Tables.{shape}
 use Rattle.pgraph.specs.View.{node_of, step_of}
 use Rattle.neutral_extension.specs.Candidates.{Candidates, AreMakersOf}

@@ -1,5 +1,5 @@
 use Rattle.std.proofs.Common.{ℕ, false, ap, ◌∙◌, subst}
-use Rattle.pns_rules.specs.Structure.{is_used}
+use Rattle.pgraph.specs.pns_rules.Structure.{is_used}
 use Rattle.pgraph.specs.Tables.{shape}
 use Rattle.pgraph.specs.View.{node_of}
 use Rattle.neutral_extension.specs.OpenLeaf.{IsCounted}

@@ -1,8 +1,8 @@
 use Rattle.std.proofs.Common.{◌≡◌, ◌==◌, ℕ, true, false, ◌||◌, List, [], ◌∷◌, ◌++◌, refl, sym, ap}
 use Rattle.std.proofs.Common.{◌∙◌, subst, arith, eq-eqb, ne_eqb}
 use Rattle.std.proofs.lemmas.Bool.{both_ways, or_from, or_left, or_right}
-use Rattle.number_sets.specs.Sets.{has, IsSet}
-use Rattle.number_sets.proofs.SetLemmas.{below_not_had, has-append}
+use Rattle.pgraph.specs.number_sets.Sets.{has, IsSet}
+use Rattle.pgraph.proofs.number_sets.Cited.{below_not_had, has-append}
 use Rattle.neutral_extension.specs.Candidates.{Candidates}
 use Rattle.neutral_extension.proofs.open_leaf.take_out_all.Goals as goal
 

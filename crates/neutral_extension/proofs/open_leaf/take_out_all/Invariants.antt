@@ -1,5 +1,5 @@
 use Rattle.std.proofs.Common.{◌≡◌, ℕ, true, false, ◌++◌}
-use Rattle.number_sets.specs.Sets.{has, IsSet}
+use Rattle.pgraph.specs.number_sets.Sets.{has, IsSet}
 use Rattle.neutral_extension.proofs.open_leaf.take_out_all.Given as goal
 
 abbrev pub invariant-loop-u : goal.invariant-loop-u

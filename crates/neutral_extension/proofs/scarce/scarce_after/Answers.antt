@@ -1,6 +1,6 @@
 use Rattle.std.proofs.Common.{ℕ, Bool, ◌&&◌, nat_lt, List, sym, ap, ◌∙◌, subst, arith}
-use Rattle.number_sets.specs.Sets.{has}
-use Rattle.pns_rules.proofs.StructureLemmas.{is_made-some}
+use Rattle.pgraph.specs.number_sets.Sets.{has}
+use Rattle.pgraph.proofs.pns_rules.Cited.{is_made-some}
 use Rattle.pgraph.specs.Tables.{shape}
 use Rattle.neutral_extension.specs.Candidates.{left}
 use Rattle.neutral_extension.specs.OpenLeaf.{IsCounted, is_empty, is_single}

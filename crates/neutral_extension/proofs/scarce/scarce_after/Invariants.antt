@@ -1,5 +1,5 @@
 use Rattle.std.proofs.Common.{◌≡◌, ◌<◌, ℕ, true}
-use Rattle.number_sets.specs.Sets.{has}
+use Rattle.pgraph.specs.number_sets.Sets.{has}
 use Rattle.pgraph.specs.Tables.{shape}
 use Rattle.neutral_extension.specs.OpenLeaf.{IsCounted}
 use Rattle.neutral_extension.proofs.scarce.scarce_after.Given as goal

@@ -1,7 +1,7 @@
 use Rattle.std.proofs.Common.{ℕ, Bool, List, sym, ap, ◌∙◌, subst, arith}
-use Rattle.number_sets.specs.Sets.{has}
-use Rattle.pns_rules.specs.Structure.{is_used}
-use Rattle.pns_rules.proofs.StructureLemmas.{is_used-some}
+use Rattle.pgraph.specs.number_sets.Sets.{has}
+use Rattle.pgraph.specs.pns_rules.Structure.{is_used}
+use Rattle.pgraph.proofs.pns_rules.Cited.{is_used-some}
 use Rattle.pgraph.specs.Tables.{shape}
 use Rattle.neutral_extension.specs.OpenLeaf.{IsTold}
 use Rattle.neutral_extension.proofs.LeafLemmas.{told_more, head_had, rest_had}

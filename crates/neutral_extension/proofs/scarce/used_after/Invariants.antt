@@ -1,6 +1,6 @@
 use Rattle.std.proofs.Common.{◌≡◌, ◌<◌, ℕ, true}
-use Rattle.number_sets.specs.Sets.{has}
-use Rattle.pns_rules.specs.Structure.{is_used}
+use Rattle.pgraph.specs.number_sets.Sets.{has}
+use Rattle.pgraph.specs.pns_rules.Structure.{is_used}
 use Rattle.pgraph.specs.Tables.{shape}
 use Rattle.neutral_extension.specs.OpenLeaf.{IsTold}
 use Rattle.neutral_extension.proofs.scarce.used_after.Given as goal

@@ -1,7 +1,7 @@
 use Rattle.std.proofs.Common.{not, ◌&&◌, nat_lt, sym, ap, ◌∙◌, ltb-true}
 use Rattle.std.proofs.lemmas.Bool.{and_parts}
-use Rattle.number_sets.specs.Sets.{has}
-use Rattle.number_sets.proofs.SetLemmas.{has-minus}
+use Rattle.pgraph.specs.number_sets.Sets.{has}
+use Rattle.pgraph.proofs.number_sets.Cited.{has-minus}
 use Rattle.pgraph.specs.Tables.{shape}
 use Rattle.neutral_extension.proofs.sets.remaining_units.Goals as goal
 

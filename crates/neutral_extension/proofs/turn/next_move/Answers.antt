@@ -1,8 +1,8 @@
 use Rattle.std.proofs.Common.{refl, subst, MatchOption}
 use Rattle.std.proofs.lemmas.Bool.{both_ways}
-use Rattle.number_sets.proofs.SetLemmas.{below_from}
-use Rattle.pns_rules.specs.Structure.{Clashes}
-use Rattle.pns_rules.specs.Ends.{IsNever, IsFirst}
+use Rattle.pgraph.proofs.number_sets.Cited.{below_from}
+use Rattle.pgraph.specs.pns_rules.Structure.{Clashes}
+use Rattle.pgraph.specs.pns_rules.Ends.{IsNever, IsFirst}
 use Rattle.pgraph.specs.Tables.{shape}
 use Rattle.pgraph.specs.View.{node_of}
 use Rattle.neutral_extension.specs.Tests.{IsLooseSet}

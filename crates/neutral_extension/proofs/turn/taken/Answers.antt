@@ -1,7 +1,7 @@
 use Rattle.std.proofs.Common.{◌≡◌, ◌==◌, ℕ, Bool, ◌||◌, sym, ap, ◌∙◌, subst}
-use Rattle.number_sets.specs.Sets.{has}
-use Rattle.number_sets.proofs.SetLemmas.{has-union, has-with_number}
-use Rattle.pns_rules.specs.Nodes.{after}
+use Rattle.pgraph.specs.number_sets.Sets.{has}
+use Rattle.pgraph.proofs.number_sets.Cited.{has-union, has-with_number}
+use Rattle.pgraph.specs.pns_rules.Nodes.{after}
 use Rattle.pgraph.specs.Tables.{shape}
 use Rattle.pgraph.specs.View.{node_of, step_of}
 use Rattle.neutral_extension.proofs.FindLemmas.{node_out, node_in}

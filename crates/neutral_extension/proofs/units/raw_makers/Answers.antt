@@ -1,5 +1,5 @@
 use Rattle.std.proofs.Common.{◌≡◌, ◌↔◌, ◌+◌, ℕ, Bool, true, List, sym, ap, ◌∙◌, subst}
-use Rattle.number_sets.specs.Sets.{has}
+use Rattle.pgraph.specs.number_sets.Sets.{has}
 use Rattle.pgraph.specs.Tables.{shape}
 use Rattle.neutral_extension.proofs.FindLemmas.{MakesRawBelow, raw_same, raw_more}
 use Rattle.neutral_extension.proofs.units.raw_makers.Goals.{then-has, else-has}

@@ -1,6 +1,6 @@
 use Rattle.std.proofs.Common.{ℕ, sym, subst, MatchOption}
-use Rattle.pns_rules.specs.Nodes.{raw, IsPossible}
-use Rattle.pns_rules.specs.Ends.{IsFirst, IsNever}
+use Rattle.pgraph.specs.pns_rules.Nodes.{raw, IsPossible}
+use Rattle.pgraph.specs.pns_rules.Ends.{IsFirst, IsNever}
 use Rattle.pgraph.specs.Tables.{shape}
 use Rattle.pgraph.specs.View.{node_of}
 use Rattle.neutral_extension.proofs.FindLemmas.{raw_found}

@@ -1,7 +1,7 @@
 use Rattle.std.proofs.Common.{ℕ, false, refl, sym, ap, ◌∙◌, subst, arith}
 use Rattle.std.proofs.lemmas.Bool.{both_ways}
-use Rattle.number_sets.specs.Sets.{has}
-use Rattle.number_sets.proofs.OptionLemmas.{first_had, first_none}
+use Rattle.pgraph.specs.number_sets.Sets.{has}
+use Rattle.pgraph.proofs.number_sets.Cited.{first_had, first_none}
 use Rattle.pgraph.specs.Tables.{shape}
 use Rattle.pgraph.specs.View.{node_of}
 use Rattle.neutral_extension.specs.OpenLeaf.{IsOnlyMaker}

@@ -1,7 +1,7 @@
-use Rattle.number_sets.specs.Sets.{has, IsSet, IsWithin}
-use Rattle.pns_rules.specs.Nodes.{free_makers}
-use Rattle.pgraph.specs.Tables.{shape}
-use Rattle.pgraph.specs.View.{node_of}
+use Rattle.structure_list.specs.number_sets.Sets.{has, IsSet, IsWithin}
+use Rattle.structure_list.specs.pns_rules.Nodes.{free_makers}
+use Rattle.structure_list.specs.pgraph.Tables.{shape}
+use Rattle.structure_list.specs.pgraph.View.{node_of}
 use Rattle.node_evaluation.specs.Choices.{IsDecisive}
 use Rattle.node_evaluation.proofs.candidates.look_at.Given as goal
 

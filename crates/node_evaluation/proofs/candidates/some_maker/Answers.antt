@@ -1,8 +1,8 @@
 use Rattle.std.proofs.Common.{List, ℕ, sym, ap, ◌∙◌}
-use Rattle.number_sets.specs.Sets.{has}
-use Rattle.number_sets.proofs.OptionLemmas.{first_had, first_none}
-use Rattle.pgraph.specs.Tables.{shape}
-use Rattle.pgraph.specs.View.{node_of}
+use Rattle.structure_list.specs.number_sets.Sets.{has}
+use Rattle.structure_list.proofs.number_sets.Cited.{first_had, first_none}
+use Rattle.structure_list.specs.pgraph.Tables.{shape}
+use Rattle.structure_list.specs.pgraph.View.{node_of}
 use Rattle.node_evaluation.proofs.BranchChoiceLemmas.{none_free}
 use Rattle.node_evaluation.proofs.BranchChoiceLemmas.{decisive_from}
 use Rattle.node_evaluation.proofs.candidates.some_maker.Goals as goal

@@ -1,10 +1,10 @@
 use Rattle.std.proofs.Common.{◌≡◌, sym, ap, ◌∙◌, subst}
-use Rattle.pns_rules.specs.Shape.{Shape, shape_of}
-use Rattle.pns_rules.specs.Nodes as rules
-use Rattle.pns_rules.specs.Ends.{IsSound}
-use Rattle.pns_rules.proofs.ProperLemmas.{proper_if_valid}
-use Rattle.pgraph.specs.View.{node_of}
-use Rattle.tree_rules.specs.Ways.{child_at}
+use Rattle.structure_list.specs.pns_rules.Shape.{Shape, shape_of}
+use Rattle.structure_list.specs.pns_rules.Nodes as rules
+use Rattle.structure_list.specs.pns_rules.Ends.{IsSound}
+use Rattle.structure_list.proofs.pns_rules.Cited.{proper_if_valid}
+use Rattle.structure_list.specs.pgraph.View.{node_of}
+use Rattle.search_tree.specs.tree_rules.Ways.{child_at}
 use Rattle.node_evaluation.specs.Choices.{way_of}
 use Rattle.node_evaluation.specs.Children.{IsChild, IsKnown}
 use Rattle.node_evaluation.proofs.ChoiceLemmas.{may_branch, decides}

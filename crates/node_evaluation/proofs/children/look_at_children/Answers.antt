@@ -1,10 +1,10 @@
 use Rattle.std.proofs.Common.{◌≡◌, ◌+◌, ◌<◌, ℕ, List, [], ◌∷◌, ◌++◌, None, length, map, drop}
 use Rattle.std.proofs.Common.{get_or, refl, sym, ap, ◌∙◌, subst, append_assoc}
 use Rattle.std.proofs.lemmas.List.{append-nil, drop_all, drop_more}
-use Rattle.pns_rules.specs.Shape.{Shape, shape_of}
+use Rattle.structure_list.specs.pns_rules.Shape.{Shape, shape_of}
 use Rattle.neutral_extension.specs.Candidates.{AreMakersOf}
-use Rattle.pgraph.specs.View.{node_of}
-use Rattle.tree_rules.specs.Ways.{options_at}
+use Rattle.structure_list.specs.pgraph.View.{node_of}
+use Rattle.search_tree.specs.tree_rules.Ways.{options_at}
 use Rattle.node_evaluation.specs.Choices.{way_of}
 use Rattle.search_tree.specs.Cells.{Cell}
 use Rattle.search_tree.specs.declared.growth.Fresh.{Fresh}

@@ -1,7 +1,7 @@
 use Rattle.std.proofs.Common.{◌≡◌, ◌++◌, true, drop}
-use Rattle.pns_rules.specs.Shape.{shape_of}
-use Rattle.pgraph.specs.View.{node_of}
-use Rattle.tree_rules.specs.Ways.{options_at}
+use Rattle.structure_list.specs.pns_rules.Shape.{shape_of}
+use Rattle.structure_list.specs.pgraph.View.{node_of}
+use Rattle.search_tree.specs.tree_rules.Ways.{options_at}
 use Rattle.node_evaluation.specs.Choices.{way_of}
 use Rattle.node_evaluation.specs.Children.{AreLooked, AreSolvedBy, cells_of, options_in}
 use Rattle.node_evaluation.proofs.children.look_at_children.Given as goal

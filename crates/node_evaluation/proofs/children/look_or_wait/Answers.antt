@@ -1,5 +1,5 @@
 use Rattle.std.proofs.Common.{◌≡◌, true, map, ap, ◌∙◌, rules}
-use Rattle.pgraph.specs.View.{step_of}
+use Rattle.structure_list.specs.pgraph.View.{step_of}
 use Rattle.node_evaluation.proofs.ChildLemmas.{child_waits}
 use Rattle.node_evaluation.proofs.children.look_or_wait.Goals as goal
 

@@ -1,7 +1,7 @@
 use Rattle.std.proofs.Common.{◌≡◌, ℕ, ◌^◌, List, [], length, refl, sym, ap, ◌∙◌, arith, eqb-true}
-use Rattle.pns_rules.specs.Nodes.{base_makers, free_makers}
-use Rattle.pgraph.specs.Tables.{shape}
-use Rattle.pgraph.specs.View.{node_of}
+use Rattle.structure_list.specs.pns_rules.Nodes.{base_makers, free_makers}
+use Rattle.structure_list.specs.pgraph.Tables.{shape}
+use Rattle.structure_list.specs.pgraph.View.{node_of}
 use Rattle.node_evaluation.proofs.BranchChoiceLemmas.{undecided_from}
 use Rattle.node_evaluation.proofs.choice.has_three_options.Goals as goal
 

@@ -1,7 +1,7 @@
-use Rattle.number_sets.specs.Sets.{has, IsWithin}
-use Rattle.pns_rules.specs.Structure.{is_needed}
-use Rattle.pgraph.specs.Tables.{shape}
-use Rattle.pgraph.specs.View.{node_of}
+use Rattle.structure_list.specs.number_sets.Sets.{has, IsWithin}
+use Rattle.structure_list.specs.pns_rules.Structure.{is_needed}
+use Rattle.structure_list.specs.pgraph.Tables.{shape}
+use Rattle.structure_list.specs.pgraph.View.{node_of}
 use Rattle.node_evaluation.proofs.choice.least_with_three.Given as goal
 
 abbrev pub invariant-loop-x : goal.invariant-loop-x

@@ -1,14 +1,14 @@
 use Rattle.std.proofs.Common.{◌≡◌, map, refl, sym, ap, subst}
-use Rattle.pns_rules.specs.Shape.{shape_of}
-use Rattle.pns_rules.specs.Ends.{IsUndecided, IsFirst, EndsAt, dead, clash, branch}
-use Rattle.pgraph.specs.Tables.{shape}
+use Rattle.structure_list.specs.pns_rules.Shape.{shape_of}
+use Rattle.structure_list.specs.pns_rules.Ends.{IsUndecided, IsFirst, EndsAt, dead, clash, branch}
+use Rattle.structure_list.specs.pgraph.Tables.{shape}
 use Rattle.search_tree.specs.Cells.{Cell}
 use Rattle.neutral_extension.specs.declared.end.Stop.{Stop}
-use Rattle.pgraph.specs.View.{node_of, step_of}
-use Rattle.unit_sets.specs.declared.node.Node.{Node}
-use Rattle.tree_rules.specs.Leaf as leaves
+use Rattle.structure_list.specs.pgraph.View.{node_of, step_of}
+use Rattle.structure_list.specs.unit_sets.declared.node.Node.{Node}
+use Rattle.search_tree.specs.tree_rules.Leaf as leaves
 use Rattle.neutral_extension.specs.Moves.{stop_of}
-use Rattle.pns_rules.proofs.ProperLemmas.{proper_if_valid}
+use Rattle.structure_list.proofs.pns_rules.Cited.{proper_if_valid}
 use Rattle.node_evaluation.proofs.KnownLemmas.{known_dead}
 use Rattle.node_evaluation.proofs.LookLemmas.{moved, looked_ok, looked_closed}
 use Rattle.node_evaluation.proofs.looks.look.Goals as goal

@@ -1,7 +1,7 @@
 use Rattle.std.proofs.Common.{◌≡◌, refl, subst}
-use Rattle.pns_rules.specs.Shape.{shape_of}
+use Rattle.structure_list.specs.pns_rules.Shape.{shape_of}
 use Rattle.node_evaluation.specs.Choices.{IsChoice}
-use Rattle.tree_rules.specs.Leaf.{refuted, untried, IsUntried, IsRefuted}
+use Rattle.search_tree.specs.tree_rules.Leaf.{refuted, untried, IsUntried, IsRefuted}
 use Rattle.node_evaluation.specs.declared.looks.Worth.TheVariants.{Settled}
 use Rattle.node_evaluation.specs.Evaluated.{IsBoundOf, HasUnits}
 use Rattle.search_tree.specs.Cells.{Cell, place_of}

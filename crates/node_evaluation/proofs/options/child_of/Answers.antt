@@ -1,4 +1,4 @@
-use Rattle.pgraph.specs.Tables.{shape}
+use Rattle.structure_list.specs.pgraph.Tables.{shape}
 use Rattle.node_evaluation.specs.Choices.{way_of}
 use Rattle.node_evaluation.proofs.OptionLemmas.{child_is}
 use Rattle.node_evaluation.proofs.options.child_of.Goals as goal

@@ -1,7 +1,7 @@
 use Rattle.std.proofs.Common.{◌≡◌, ℕ, Bool, sym, ap, subst}
-use Rattle.number_sets.specs.Sets.{has}
-use Rattle.pgraph.specs.Tables.{shape}
-use Rattle.tree_rules.specs.Ways.{decides}
+use Rattle.structure_list.specs.number_sets.Sets.{has}
+use Rattle.structure_list.specs.pgraph.Tables.{shape}
+use Rattle.search_tree.specs.tree_rules.Ways.{decides}
 use Rattle.node_evaluation.specs.declared.choice.Choice.{Choice}
 use Rattle.node_evaluation.specs.Choices.{way_of}
 use Rattle.node_evaluation.proofs.options.decided.Goals as goal

@@ -1,5 +1,5 @@
 use Rattle.std.proofs.Common.{ℕ, List, [], ◌∷◌, Option, sym, ap₂, ◌∙◌, subst, length-append, arith}
-use Rattle.number_sets.specs.Options.{all_options}
+use Rattle.structure_list.specs.number_sets.Options.{all_options}
 use Rattle.node_evaluation.proofs.OptionWalk.{IsAhead, ahead_first, ahead_next, all_done}
 use Rattle.node_evaluation.proofs.OptionWalk.{is_between, some_left}
 use Rattle.node_evaluation.proofs.options.options_of_material.Goals as goal

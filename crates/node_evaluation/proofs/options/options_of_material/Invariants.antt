@@ -1,5 +1,5 @@
 use Rattle.std.proofs.Common.{length, ◌-◌}
-use Rattle.number_sets.specs.Options.{all_options}
+use Rattle.structure_list.specs.number_sets.Options.{all_options}
 use Rattle.node_evaluation.proofs.OptionWalk.{IsAhead}
 use Rattle.node_evaluation.proofs.options.options_of_material.Given as goal
 

@@ -1,6 +1,6 @@
-use Rattle.tree_text_rules.specs.Read.{Certificate}
-use Rattle.tree_text_rules.specs.Spelling.{tree_text}
-use Rattle.studio_rules.specs.Part.{part_from}
+use Rattle.network_commands.specs.tree_text_rules.Read.{Certificate}
+use Rattle.network_commands.specs.tree_text_rules.Spelling.{tree_text}
+use Rattle.network_commands.specs.studio_rules.Part.{part_from}
 use Rattle.part_commands.proofs.found.reads_back.Goals as goal
 
 pub returns : goal.returns

@@ -1,11 +1,11 @@
 use Rattle.std.proofs.Common.{◌∙◌, sym, subst}
-use Rattle.pgraph.specs.View.{node_of}
-use Rattle.tree_rules.specs.Known.{KnowsClaim, KnowsTree, KnowsTail}
-use Rattle.tree_text_rules.specs.Read.{Certificate}
-use Rattle.tree_text_rules.specs.Part.{Part}
-use Rattle.studio_rules.specs.Ending.{Tells}
-use Rattle.studio_rules.specs.declared.status.Status.TheVariants.{Memory}
-use Rattle.command_files.proofs.Ending.{Ends-map, Tells-map, Tells-memory, only_in}
+use Rattle.network_commands.specs.pgraph.View.{node_of}
+use Rattle.network_commands.specs.tree_rules.Known.{KnowsClaim, KnowsTree, KnowsTail}
+use Rattle.network_commands.specs.tree_text_rules.Read.{Certificate}
+use Rattle.network_commands.specs.tree_text_rules.Part.{Part}
+use Rattle.network_commands.specs.studio_rules.Ending.{Tells}
+use Rattle.network_commands.specs.studio_rules.declared.status.Status.TheVariants.{Memory}
+use Rattle.network_commands.proofs.command_files.Cited.{Ends-map, Tells-map, Tells-memory, only_in}
 use Rattle.part_commands.specs.Found.{ReadsBack, TextSays, FoundSays}
 use Rattle.part_commands.proofs.Parts.{CanPrint, can_print}
 use Rattle.part_commands.proofs.found.say_found.Goals as goal

@@ -1,12 +1,11 @@
 use Rattle.std.proofs.Common.{◌≡◌, ◌∙◌, ℕ, List, Ok, ap, sym, subst, refl}
-use Rattle.studio_rules.specs.Lines.{text_of}
-use Rattle.studio_rules.specs.Solve.{status_of}
-use Rattle.tree_text_rules.specs.Part.{Part}
-use Rattle.tree_text_rules.specs.PartRead.{PartReads}
-use Rattle.tree_text_rules.specs.PartSpelling.{part_text_lines}
-use Rattle.studio_rules.specs.Printed.{OneAnswer}
-use Rattle.command_files.proofs.Ending.{Tells-map, Ends-from}
-use Rattle.command_files.proofs.Printing.{spelled_text}
+use Rattle.network_commands.specs.studio_rules.Lines.{text_of}
+use Rattle.network_commands.specs.studio_rules.Solve.{status_of}
+use Rattle.network_commands.specs.tree_text_rules.Part.{Part}
+use Rattle.network_commands.specs.tree_text_rules.PartRead.{PartReads}
+use Rattle.network_commands.specs.tree_text_rules.PartSpelling.{part_text_lines}
+use Rattle.network_commands.specs.studio_rules.Printed.{OneAnswer}
+use Rattle.network_commands.proofs.command_files.Cited.{Tells-map, Ends-from, spelled_text}
 use Rattle.part_commands.specs.Found.{TextSays}
 use Rattle.part_commands.proofs.Parts.{is_printing}
 use Rattle.part_commands.proofs.found.say_part.Goals as goal

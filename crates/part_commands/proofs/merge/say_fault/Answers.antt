@@ -1,11 +1,13 @@
 use Rattle.std.proofs.Common.{◌≡◌, ◌∷◌, [], refl, subst, sym, inl, ℕ, List, codes}
-use Rattle.tree_text_rules.specs.declared.merge_fault.MergeFault.{MergeFault}
-use Rattle.studio_rules.specs.Merge.{TreeRefused, PartRefused, FaultSays, no_leaf_line}
-use Rattle.studio_rules.specs.Lines.{line}
-use Rattle.studio_rules.specs.Ending.{Tells}
-use Rattle.studio_rules.specs.declared.status.Status.{Status}
-use Rattle.studio_rules.specs.declared.status.Status.TheVariants.{NoLeaf, Memory}
-use Rattle.command_files.proofs.Ending.{Ends-map, Tells-map, only_in, only_or_memory_in, one_line}
+use Rattle.network_commands.specs.tree_text_rules.declared.merge_fault.MergeFault.{MergeFault}
+use Rattle.network_commands.specs.studio_rules.Merge.{TreeRefused, PartRefused, FaultSays}
+use Rattle.network_commands.specs.studio_rules.Merge.{no_leaf_line}
+use Rattle.network_commands.specs.studio_rules.Lines.{line}
+use Rattle.network_commands.specs.studio_rules.Ending.{Tells}
+use Rattle.network_commands.specs.studio_rules.declared.status.Status.{Status}
+use Rattle.network_commands.specs.studio_rules.declared.status.Status.TheVariants.{NoLeaf, Memory}
+use Rattle.network_commands.proofs.command_files.Cited.{Ends-map, Tells-map, only_in}
+use Rattle.network_commands.proofs.command_files.Cited.{only_or_memory_in, one_line}
 use Rattle.part_commands.proofs.merge.say_fault.Goals as goal
 
 pub returns-in-Tree : goal.returns-in-Tree

@@ -1,10 +1,10 @@
 use Rattle.std.proofs.Common.{subst, sym, ℕ, List, map, string_bytes}
-use Rattle.problem_rules.specs.Problem.{Problem}
-use Rattle.branch_tree.specs.View.{claim_of}
-use Rattle.studio_rules.specs.Merge.{MergeSays}
-use Rattle.studio_rules.specs.Ending.{Ends, Tells}
-use Rattle.studio_rules.specs.declared.status.Status.TheVariants.{Memory}
-use Rattle.command_files.proofs.Ending.{Ends-map, Tells-memory, only_in}
+use Rattle.network_commands.specs.problem_rules.Problem.{Problem}
+use Rattle.network_commands.specs.branch_tree.View.{claim_of}
+use Rattle.network_commands.specs.studio_rules.Merge.{MergeSays}
+use Rattle.network_commands.specs.studio_rules.Ending.{Ends, Tells}
+use Rattle.network_commands.specs.studio_rules.declared.status.Status.TheVariants.{Memory}
+use Rattle.network_commands.proofs.command_files.Cited.{Ends-map, Tells-memory, only_in}
 use Rattle.part_commands.proofs.merge.say_merged.Goals as goal
 
 pub returns-in_default : goal.returns-in_default

@@ -2,16 +2,16 @@ use Rattle.std.proofs.Common.{◌≡◌, ◌∙◌, ap, inl, inr, ℕ, List, map
 use Rattle.std.proofs.Common.{length}
 use Rattle.std.specs.List.{Contains}
 use Rattle.std.proofs.lemmas.List.{length-map}
-use Rattle.problem_rules.specs.Each.{Each}
-use Rattle.tree_text_rules.specs.Part.{Part}
-use Rattle.branch_tree.specs.View.{claim_of}
-use Rattle.tree_text_rules.specs.PartSpelling.{KnowsPart}
-use Rattle.studio_rules.specs.Merge.{MergeSays, MergeWork}
-use Rattle.studio_rules.specs.PartFile.{FirstFault, GiveParts}
+use Rattle.network_commands.specs.problem_rules.Each.{Each}
+use Rattle.network_commands.specs.tree_text_rules.Part.{Part}
+use Rattle.network_commands.specs.branch_tree.View.{claim_of}
+use Rattle.network_commands.specs.tree_text_rules.PartSpelling.{KnowsPart}
+use Rattle.network_commands.specs.studio_rules.Merge.{MergeSays, MergeWork}
+use Rattle.network_commands.specs.studio_rules.PartFile.{FirstFault, GiveParts}
 use Rattle.part_commands.proofs.PartFiles.{as_many}
-use Rattle.studio_rules.specs.Ending.{Says}
-use Rattle.studio_rules.specs.declared.status.Status.{Status}
-use Rattle.command_files.proofs.Ending.{Ends-map, Ends-from, Says-map, Says-told}
+use Rattle.network_commands.specs.studio_rules.Ending.{Says}
+use Rattle.network_commands.specs.studio_rules.declared.status.Status.{Status}
+use Rattle.network_commands.proofs.command_files.Cited.{Ends-map, Ends-from, Says-map, Says-told}
 use Rattle.part_commands.proofs.merge.say_parts.Goals as goal
 
 pub returns-in-Ok-clause-ends : goal.returns-in-Ok-clause-ends

@@ -1,20 +1,20 @@
 use Rattle.std.proofs.Common.{◌≡◌, ◌<◌, arith, ◌∷◌, [], refl, ap, subst, sym, ◌∙◌, inl, inr, ℕ}
 use Rattle.std.proofs.Common.{List, Bool, nat_lt, get_or, length, map, codes, string_bytes}
 use Rattle.std.proofs.lemmas.List.{length-map, get_or-map}
-use Rattle.problem_rules.specs.Problem.{Problem}
-use Rattle.branch_tree.specs.View.{claim_of}
-use Rattle.tree_rules.specs.Known.{KnowsClaim, KnowsTree}
-use Rattle.tree_rules.specs.Tail.{whole}
-use Rattle.pns_rules.specs.Shape.{shape_of}
-use Rattle.tree_text_rules.specs.Spelling.{tree_text_lines}
-use Rattle.studio_rules.specs.Merge.{MergeSays, FaultSays}
+use Rattle.network_commands.specs.problem_rules.Problem.{Problem}
+use Rattle.network_commands.specs.branch_tree.View.{claim_of}
+use Rattle.network_commands.specs.tree_rules.Known.{KnowsClaim, KnowsTree}
+use Rattle.network_commands.specs.tree_rules.Tail.{whole}
+use Rattle.network_commands.specs.pns_rules.Shape.{shape_of}
+use Rattle.network_commands.specs.tree_text_rules.Spelling.{tree_text_lines}
+use Rattle.network_commands.specs.studio_rules.Merge.{MergeSays, FaultSays}
 use Rattle.part_commands.proofs.MergeLines.{inside_known, merged_known}
-use Rattle.studio_rules.specs.Lines.{line}
-use Rattle.studio_rules.specs.Printed.{OneAnswer}
-use Rattle.studio_rules.specs.Ending.{Ends, Tells}
-use Rattle.studio_rules.specs.declared.status.Status.{Status}
-use Rattle.studio_rules.specs.declared.status.Status.TheVariants.{Done, Memory}
-use Rattle.command_files.proofs.Ending.{Ends-map, Tells-map, Tells-memory, only_in}
+use Rattle.network_commands.specs.studio_rules.Lines.{line}
+use Rattle.network_commands.specs.studio_rules.Printed.{OneAnswer}
+use Rattle.network_commands.specs.studio_rules.Ending.{Ends, Tells}
+use Rattle.network_commands.specs.studio_rules.declared.status.Status.{Status}
+use Rattle.network_commands.specs.studio_rules.declared.status.Status.TheVariants.{Done, Memory}
+use Rattle.network_commands.proofs.command_files.Cited.{Ends-map, Tells-map, Tells-memory, only_in}
 use Rattle.part_commands.proofs.merge.say_put_back.Goals as goal
 
 pub merge_all-requires : goal.merge_all-requires

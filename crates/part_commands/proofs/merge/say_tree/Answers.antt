@@ -1,13 +1,13 @@
 use Rattle.std.proofs.Common.{◌≡◌, ◌⊎◌, ap, inl, inr, ℕ, List, map, string_bytes}
 use Rattle.std.specs.List.{Contains}
-use Rattle.branch_tree.specs.View.{claim_of}
-use Rattle.studio_rules.specs.TreeFile.{OnTree, TreeFault, TreeFaults, TreeSays}
-use Rattle.studio_rules.specs.Merge.{MergeWork}
+use Rattle.network_commands.specs.branch_tree.View.{claim_of}
+use Rattle.network_commands.specs.studio_rules.TreeFile.{OnTree, TreeFault, TreeFaults, TreeSays}
+use Rattle.network_commands.specs.studio_rules.Merge.{MergeWork}
 use Rattle.part_commands.proofs.PartFiles.{tree_told}
-use Rattle.studio_rules.specs.Ending.{Says}
-use Rattle.studio_rules.specs.declared.status.Status.{Status}
-use Rattle.command_files.proofs.Ending.{Ends-map, Ends-from, Says-map}
-use Rattle.command_files.proofs.Keeping.{keeps_through}
+use Rattle.network_commands.specs.studio_rules.Ending.{Says}
+use Rattle.network_commands.specs.studio_rules.declared.status.Status.{Status}
+use Rattle.network_commands.proofs.command_files.Cited.{Ends-map, Ends-from, Says-map}
+use Rattle.network_commands.proofs.command_files.Cited.{keeps_through}
 use Rattle.part_commands.proofs.merge.say_tree.Goals as goal
 
 pub returns-in-Ok-clause-ends : goal.returns-in-Ok-clause-ends

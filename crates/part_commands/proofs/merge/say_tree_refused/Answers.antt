@@ -1,11 +1,13 @@
 use Rattle.std.proofs.Common.{◌≡◌, ◌∷◌, ◌++◌, [], refl, ap, subst, sym, ◌∙◌, inl, ℕ, List, codes}
-use Rattle.studio_rules.specs.RefusalWords.{claim_line, node_line}
-use Rattle.studio_rules.specs.Merge.{TreeRefused}
-use Rattle.studio_rules.specs.Lines.{line}
-use Rattle.studio_rules.specs.Ending.{Tells}
-use Rattle.studio_rules.specs.declared.status.Status.{Status}
-use Rattle.studio_rules.specs.declared.status.Status.TheVariants.{BadClaim, NoLeaf, Memory}
-use Rattle.command_files.proofs.Ending.{Ends-map, only_in, only_or_memory_in, one_line}
+use Rattle.network_commands.specs.studio_rules.RefusalWords.{claim_line, node_line}
+use Rattle.network_commands.specs.studio_rules.Merge.{TreeRefused}
+use Rattle.network_commands.specs.studio_rules.Lines.{line}
+use Rattle.network_commands.specs.studio_rules.Ending.{Tells}
+use Rattle.network_commands.specs.studio_rules.declared.status.Status.{Status}
+use Rattle.network_commands.specs.studio_rules.declared.status.Status.TheVariants.{BadClaim, NoLeaf}
+use Rattle.network_commands.specs.studio_rules.declared.status.Status.TheVariants.{Memory}
+use Rattle.network_commands.proofs.command_files.Cited.{Ends-map, only_in, only_or_memory_in}
+use Rattle.network_commands.proofs.command_files.Cited.{one_line}
 use Rattle.part_commands.proofs.merge.say_tree_refused.Goals as goal
 
 pub returns-in-Claim : goal.returns-in-Claim

@@ -1,11 +1,11 @@
 use Rattle.std.proofs.Common.{refl}
-use Rattle.branch_tree.specs.View.{claim_of}
-use Rattle.tree_rules.specs.Tail.{whole}
-use Rattle.tree_text_rules.specs.Spelling.{tree_text_lines}
-use Rattle.studio_rules.specs.Printed.{OneAnswer}
-use Rattle.studio_rules.specs.Ending.{Tells}
-use Rattle.studio_rules.specs.declared.status.Status.TheVariants.{Done}
-use Rattle.command_files.proofs.Ending.{Ends-from}
+use Rattle.network_commands.specs.branch_tree.View.{claim_of}
+use Rattle.network_commands.specs.tree_rules.Tail.{whole}
+use Rattle.network_commands.specs.tree_text_rules.Spelling.{tree_text_lines}
+use Rattle.network_commands.specs.studio_rules.Printed.{OneAnswer}
+use Rattle.network_commands.specs.studio_rules.Ending.{Tells}
+use Rattle.network_commands.specs.studio_rules.declared.status.Status.TheVariants.{Done}
+use Rattle.network_commands.proofs.command_files.Cited.{Ends-from}
 use Rattle.part_commands.proofs.merge.say_tree_text.Goals as goal
 
 pub returns : goal.returns

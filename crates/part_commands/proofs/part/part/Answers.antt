@@ -1,11 +1,11 @@
 use Rattle.std.proofs.Common.{ap, ℕ, List}
-use Rattle.problem_rules.specs.Problem.{Problem}
-use Rattle.studio_rules.specs.Part.{PartWork}
-use Rattle.studio_rules.specs.Reading.{FileSays}
-use Rattle.studio_rules.specs.Ending.{Tells}
-use Rattle.studio_rules.specs.declared.status.Status.{Status}
-use Rattle.command_files.proofs.Ending.{Ends-map, Ends-from}
-use Rattle.command_files.proofs.Files.{on_file-faults, on_file-work}
+use Rattle.network_commands.specs.problem_rules.Problem.{Problem}
+use Rattle.network_commands.specs.studio_rules.Part.{PartWork}
+use Rattle.network_commands.specs.studio_rules.Reading.{FileSays}
+use Rattle.network_commands.specs.studio_rules.Ending.{Tells}
+use Rattle.network_commands.specs.studio_rules.declared.status.Status.{Status}
+use Rattle.network_commands.proofs.command_files.Cited.{Ends-map, Ends-from, on_file-faults}
+use Rattle.network_commands.proofs.command_files.Cited.{on_file-work}
 use Rattle.part_commands.proofs.part.part.Goals as goal
 
 pub returns-in-Ok-clause-ends : goal.returns-in-Ok-clause-ends

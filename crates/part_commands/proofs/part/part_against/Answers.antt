@@ -1,11 +1,10 @@
 use Rattle.std.proofs.Common.{◌≡◌, ◌⊎◌, ap, ℕ, List}
-use Rattle.studio_rules.specs.Reading.{OnFile}
-use Rattle.studio_rules.specs.Part.{AgainstWork}
+use Rattle.network_commands.specs.studio_rules.Reading.{OnFile}
+use Rattle.network_commands.specs.studio_rules.Part.{AgainstWork}
 use Rattle.part_commands.proofs.Behind.{file_faults, file_work}
-use Rattle.studio_rules.specs.Ending.{Says}
-use Rattle.studio_rules.specs.declared.status.Status.{Status}
-use Rattle.command_files.proofs.Ending.{Ends-map, Ends-from}
-use Rattle.command_files.proofs.Keeping.{keeps_through}
+use Rattle.network_commands.specs.studio_rules.Ending.{Says}
+use Rattle.network_commands.specs.studio_rules.declared.status.Status.{Status}
+use Rattle.network_commands.proofs.command_files.Cited.{Ends-map, Ends-from, keeps_through}
 use Rattle.part_commands.proofs.part.part_against.Goals as goal
 
 pub returns-in-Ok-clause-ends : goal.returns-in-Ok-clause-ends

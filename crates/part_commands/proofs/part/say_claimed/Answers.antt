@@ -1,15 +1,15 @@
 use Rattle.std.proofs.Common.{None, Some, sym, subst, ap, inl, inr, ℕ, List}
-use Rattle.tree_rules.specs.Claim.{Network, IsFeasible}
-use Rattle.branch_tree.specs.View.{claim_of}
-use Rattle.branch_tree.specs.declared.claim.Claim.{Claim}
-use Rattle.branch_tree.specs.declared.claim.Claim.TheVariants as claims
-use Rattle.problem_rules.specs.Problem.{Problem}
-use Rattle.studio_rules.specs.Network.{ClaimRefusal, ClaimsNetwork}
-use Rattle.studio_rules.specs.Part.{PartSays, ClaimSays}
+use Rattle.network_commands.specs.tree_rules.Claim.{Network, IsFeasible}
+use Rattle.network_commands.specs.branch_tree.View.{claim_of}
+use Rattle.network_commands.specs.branch_tree.declared.claim.Claim.{Claim}
+use Rattle.network_commands.specs.branch_tree.declared.claim.Claim.TheVariants as claims
+use Rattle.network_commands.specs.problem_rules.Problem.{Problem}
+use Rattle.network_commands.specs.studio_rules.Network.{ClaimRefusal, ClaimsNetwork}
+use Rattle.network_commands.specs.studio_rules.Part.{PartSays, ClaimSays}
 use Rattle.part_commands.proofs.Parts.{network_is}
-use Rattle.studio_rules.specs.Ending.{Ends, Tells}
-use Rattle.studio_rules.specs.declared.status.Status.{Status}
-use Rattle.command_files.proofs.Ending.{Ends-map, Ends-from, Tells-map}
+use Rattle.network_commands.specs.studio_rules.Ending.{Ends, Tells}
+use Rattle.network_commands.specs.studio_rules.declared.status.Status.{Status}
+use Rattle.network_commands.proofs.command_files.Cited.{Ends-map, Ends-from, Tells-map}
 use Rattle.part_commands.proofs.part.say_claimed.Goals as goal
 
 pub returns-in-Ok : goal.returns-in-Ok

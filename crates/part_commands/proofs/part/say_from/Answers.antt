@@ -1,9 +1,9 @@
 use Rattle.std.proofs.Common.{None, [], ◌∷◌, refl, inl, inr, ℕ, List, codes}
-use Rattle.studio_rules.specs.Part.{PartSays, PartWork}
-use Rattle.studio_rules.specs.Ending.{Tells}
-use Rattle.studio_rules.specs.declared.status.Status.{Status}
-use Rattle.studio_rules.specs.declared.status.Status.TheVariants.{Memory, BadNode}
-use Rattle.command_files.proofs.Ending.{Ends-map, Tells-map, Tells-memory, only_in}
+use Rattle.network_commands.specs.studio_rules.Part.{PartSays, PartWork}
+use Rattle.network_commands.specs.studio_rules.Ending.{Tells}
+use Rattle.network_commands.specs.studio_rules.declared.status.Status.{Status}
+use Rattle.network_commands.specs.studio_rules.declared.status.Status.TheVariants.{Memory, BadNode}
+use Rattle.network_commands.proofs.command_files.Cited.{Ends-map, Tells-map, Tells-memory, only_in}
 use Rattle.part_commands.proofs.part.say_from.Goals as goal
 
 pub returns-in_default : goal.returns-in_default

@@ -1,11 +1,11 @@
 use Rattle.std.proofs.Common.{◌≡◌, [], ◌∷◌, refl, inl, inr, ℕ, List, codes}
-use Rattle.studio_rules.specs.TreeFile.{OnTree}
-use Rattle.studio_rules.specs.Part.{ClaimSays, AgainstWork}
-use Rattle.studio_rules.specs.Ending.{Says}
-use Rattle.studio_rules.specs.declared.status.Status.{Status}
-use Rattle.studio_rules.specs.declared.status.Status.TheVariants.{Memory, BadNode}
-use Rattle.command_files.proofs.Ending.{Ends-map, Says-map, Tells-memory, only_in}
-use Rattle.command_files.proofs.Keeping.{keeps_same}
+use Rattle.network_commands.specs.studio_rules.TreeFile.{OnTree}
+use Rattle.network_commands.specs.studio_rules.Part.{ClaimSays, AgainstWork}
+use Rattle.network_commands.specs.studio_rules.Ending.{Says}
+use Rattle.network_commands.specs.studio_rules.declared.status.Status.{Status}
+use Rattle.network_commands.specs.studio_rules.declared.status.Status.TheVariants.{Memory, BadNode}
+use Rattle.network_commands.proofs.command_files.Cited.{Ends-map, Says-map, Tells-memory, only_in}
+use Rattle.network_commands.proofs.command_files.Cited.{keeps_same}
 use Rattle.part_commands.proofs.part.say_from_against.Goals as goal
 
 pub returns-in_default-clause-ends : goal.returns-in_default-clause-ends

@@ -1,13 +1,13 @@
 use Rattle.std.proofs.Common.{None, sym, subst}
-use Rattle.problem_rules.specs.Problem.{Problem}
-use Rattle.pns_rules.specs.Shape.{shape_of}
-use Rattle.pns_rules.specs.Ends.{IsSound}
-use Rattle.pgraph.specs.View.{node_of}
-use Rattle.abb_search.specs.declared.outcome.Found.{Found}
-use Rattle.abb_search.specs.Found.{IsFound}
+use Rattle.network_commands.specs.problem_rules.Problem.{Problem}
+use Rattle.network_commands.specs.pns_rules.Shape.{shape_of}
+use Rattle.network_commands.specs.pns_rules.Ends.{IsSound}
+use Rattle.network_commands.specs.pgraph.View.{node_of}
+use Rattle.searches.specs.abb_search.declared.outcome.Found.{Found}
+use Rattle.searches.specs.abb_search.Found.{IsFound}
 use Rattle.part_commands.specs.Found.{FoundSays}
-use Rattle.studio_rules.specs.Part.{PartSays}
-use Rattle.command_files.proofs.Ending.{Ends-map, Tells-map}
+use Rattle.network_commands.specs.studio_rules.Part.{PartSays}
+use Rattle.network_commands.proofs.command_files.Cited.{Ends-map, Tells-map}
 use Rattle.part_commands.proofs.Parts.{part_says}
 use Rattle.part_commands.proofs.part.say_searched.Goals as goal
 

@@ -1,11 +1,11 @@
 use Rattle.std.proofs.Common.{◌≡◌, ap, inl, inr, ℕ, List}
-use Rattle.branch_tree.specs.View.{claim_of}
-use Rattle.studio_rules.specs.TreeFile.{OnTree, TreeFault, TreeSays}
-use Rattle.studio_rules.specs.Part.{ClaimSays}
-use Rattle.studio_rules.specs.Ending.{Says}
-use Rattle.studio_rules.specs.declared.status.Status.{Status}
-use Rattle.command_files.proofs.Ending.{Ends-map, Ends-from, Says-told}
-use Rattle.command_files.proofs.Seconds.{on_second-faults}
+use Rattle.network_commands.specs.branch_tree.View.{claim_of}
+use Rattle.network_commands.specs.studio_rules.TreeFile.{OnTree, TreeFault, TreeSays}
+use Rattle.network_commands.specs.studio_rules.Part.{ClaimSays}
+use Rattle.network_commands.specs.studio_rules.Ending.{Says}
+use Rattle.network_commands.specs.studio_rules.declared.status.Status.{Status}
+use Rattle.network_commands.proofs.command_files.Cited.{Ends-map, Ends-from, Says-told}
+use Rattle.network_commands.proofs.command_files.Cited.{on_second-faults}
 use Rattle.part_commands.proofs.part.say_tree.Goals as goal
 
 pub returns-in-Ok-clause-ends : goal.returns-in-Ok-clause-ends

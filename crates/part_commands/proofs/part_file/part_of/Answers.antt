@@ -1,13 +1,14 @@
 use Rattle.std.proofs.Common.{◌≡◌, ◌∷◌, [], Ok, Err, refl, sym, ap, subst, inl, List, ℕ, codes}
-use Rattle.tree_text_rules.specs.Part as parts
-use Rattle.tree_text_rules.specs.PartRead.{PartReads}
-use Rattle.studio_rules.specs.Lines.{line}
-use Rattle.studio_rules.specs.PartFile.{PartFault, PartFaults, part_fault_line}
-use Rattle.studio_rules.specs.Ending.{Says}
-use Rattle.studio_rules.specs.declared.status.Status.{Status}
-use Rattle.studio_rules.specs.declared.status.Status.TheVariants.{BadTree, Memory}
-use Rattle.command_files.proofs.Ending.{Ends-map, Ends-from, only_in, only_or_memory_in, one_line}
-use Rattle.command_files.proofs.Seconds.{long-faults}
+use Rattle.network_commands.specs.tree_text_rules.Part as parts
+use Rattle.network_commands.specs.tree_text_rules.PartRead.{PartReads}
+use Rattle.network_commands.specs.studio_rules.Lines.{line}
+use Rattle.network_commands.specs.studio_rules.PartFile.{PartFault, PartFaults, part_fault_line}
+use Rattle.network_commands.specs.studio_rules.Ending.{Says}
+use Rattle.network_commands.specs.studio_rules.declared.status.Status.{Status}
+use Rattle.network_commands.specs.studio_rules.declared.status.Status.TheVariants.{BadTree, Memory}
+use Rattle.network_commands.proofs.command_files.Cited.{Ends-map, Ends-from, only_in}
+use Rattle.network_commands.proofs.command_files.Cited.{only_or_memory_in, one_line}
+use Rattle.network_commands.proofs.command_files.Cited.{long-faults}
 use Rattle.part_commands.proofs.part_file.part_of.Goals as goal
 
 pub returns-in-Err-clause-told : goal.returns-in-Err-clause-told

@@ -2,19 +2,18 @@ use Rattle.std.proofs.Common.{◌≡◌, ◌<◌, ◌+◌, ◌∷◌, [], ap, re
 use Rattle.std.proofs.Common.{length, nat_lt, get_or, arith, string_bytes}
 use Rattle.std.specs.List.{Contains}
 use Rattle.std.proofs.lemmas.List.{length-map, get_or-map}
-use Rattle.text_rules.specs.Outside.{Told}
-use Rattle.problem_rules.specs.Each.{Each}
-use Rattle.text_laws.proofs.Each.{each-append}
-use Rattle.tree_text_rules.specs.Part.{Part}
-use Rattle.tree_text_rules.specs.PartSpelling.{KnowsPart}
-use Rattle.studio_rules.specs.Reading.{AreHeld}
-use Rattle.studio_rules.specs.PartFile.{FirstFault, GivesPart}
+use Rattle.network_commands.specs.text_rules.Outside.{Told}
+use Rattle.network_commands.specs.problem_rules.Each.{Each}
+use Rattle.network_commands.proofs.text_laws.Cited.{each-append}
+use Rattle.network_commands.specs.tree_text_rules.Part.{Part}
+use Rattle.network_commands.specs.tree_text_rules.PartSpelling.{KnowsPart}
+use Rattle.network_commands.specs.studio_rules.Reading.{AreHeld}
+use Rattle.network_commands.specs.studio_rules.PartFile.{FirstFault, GivesPart}
 use Rattle.part_commands.proofs.PartFiles.{GiveBefore, one_given, fault_told}
-use Rattle.studio_rules.specs.Ending.{Says}
-use Rattle.studio_rules.specs.declared.status.Status.{Status}
-use Rattle.studio_rules.specs.declared.status.Status.TheVariants.{Memory}
-use Rattle.command_files.proofs.Ending.{Ends-from, only_in}
-use Rattle.command_files.proofs.Keeping.{keeps_through}
+use Rattle.network_commands.specs.studio_rules.Ending.{Says}
+use Rattle.network_commands.specs.studio_rules.declared.status.Status.{Status}
+use Rattle.network_commands.specs.studio_rules.declared.status.Status.TheVariants.{Memory}
+use Rattle.network_commands.proofs.command_files.Cited.{Ends-from, only_in, keeps_through}
 use Rattle.part_commands.proofs.part_file.parts_of.Goals as goal
 
 pub returns-in_default-clause-told : goal.returns-in_default-clause-told

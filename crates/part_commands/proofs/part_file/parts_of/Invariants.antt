@@ -1,7 +1,7 @@
 use Rattle.std.proofs.Common.{◌≡◌, map, string_bytes}
-use Rattle.problem_rules.specs.Each.{Each}
-use Rattle.tree_text_rules.specs.PartSpelling.{KnowsPart}
-use Rattle.studio_rules.specs.Keeps.{Keeps}
+use Rattle.network_commands.specs.problem_rules.Each.{Each}
+use Rattle.network_commands.specs.tree_text_rules.PartSpelling.{KnowsPart}
+use Rattle.network_commands.specs.studio_rules.Keeps.{Keeps}
 use Rattle.part_commands.proofs.PartFiles.{GiveBefore}
 use Rattle.part_commands.proofs.part_file.parts_of.Given as goal
 

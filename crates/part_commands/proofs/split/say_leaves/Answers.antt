@@ -1,5 +1,5 @@
 use Rattle.std.proofs.Common.{◌≤◌, ◌∙◌, length, arith}
-use Rattle.command_files.proofs.Ending.{HasRisen-later}
+use Rattle.network_commands.proofs.command_files.Cited.{HasRisen-later}
 use Rattle.part_commands.proofs.Lines.{starved, ended, stopped, one_more}
 use Rattle.part_commands.proofs.split.say_leaves.Goals as goal
 

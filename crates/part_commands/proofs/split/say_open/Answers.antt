@@ -1,19 +1,20 @@
 use Rattle.std.proofs.Common.{◌≡◌, subst, sym, ◌++◌, ◌∷◌, ◌∙◌, [], true, refl, ap, inl, inr, ℕ}
 use Rattle.std.proofs.Common.{List, codes}
-use Rattle.branch_tree.specs.View.{claim_of}
-use Rattle.tree_rules.specs.Claim.{ClaimPasses, ClaimFails}
-use Rattle.tree_rules.specs.Accepted.{first_node, NodeIsFault}
-use Rattle.pns_rules.specs.Shape.{shape_of}
-use Rattle.tree_text_rules.specs.OpenLeaves.{open_leaves}
-use Rattle.cert_check.specs.declared.open_leaf.OpenLeaf.{OpenLeaf}
-use Rattle.cert_check.specs.OpenLeaves.{leaves_at}
-use Rattle.studio_rules.specs.Lines.{line}
-use Rattle.studio_rules.specs.Split.{SplitWork, LeavesSay, split_lines}
-use Rattle.studio_rules.specs.RefusalWords.{claim_line, node_line}
-use Rattle.studio_rules.specs.Ending.{Tells}
-use Rattle.studio_rules.specs.declared.status.Status.{Status}
-use Rattle.studio_rules.specs.declared.status.Status.TheVariants.{BadClaim, Memory}
-use Rattle.command_files.proofs.Ending.{Ends-map, Tells-map, only_in, only_or_memory_in, one_line}
+use Rattle.network_commands.specs.branch_tree.View.{claim_of}
+use Rattle.network_commands.specs.tree_rules.Claim.{ClaimPasses, ClaimFails}
+use Rattle.network_commands.specs.tree_rules.Accepted.{first_node, NodeIsFault}
+use Rattle.network_commands.specs.pns_rules.Shape.{shape_of}
+use Rattle.network_commands.specs.tree_text_rules.OpenLeaves.{open_leaves}
+use Rattle.network_commands.specs.cert_check.declared.open_leaf.OpenLeaf.{OpenLeaf}
+use Rattle.network_commands.specs.cert_check.OpenLeaves.{leaves_at}
+use Rattle.network_commands.specs.studio_rules.Lines.{line}
+use Rattle.network_commands.specs.studio_rules.Split.{SplitWork, LeavesSay, split_lines}
+use Rattle.network_commands.specs.studio_rules.RefusalWords.{claim_line, node_line}
+use Rattle.network_commands.specs.studio_rules.Ending.{Tells}
+use Rattle.network_commands.specs.studio_rules.declared.status.Status.{Status}
+use Rattle.network_commands.specs.studio_rules.declared.status.Status.TheVariants.{BadClaim, Memory}
+use Rattle.network_commands.proofs.command_files.Cited.{Ends-map, Tells-map, only_in}
+use Rattle.network_commands.proofs.command_files.Cited.{only_or_memory_in, one_line}
 use Rattle.part_commands.proofs.split.say_open.Goals as goal
 
 pub returns-in-Err-Claim : goal.returns-in-Err-Claim

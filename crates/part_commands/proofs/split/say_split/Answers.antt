@@ -1,8 +1,8 @@
 use Rattle.std.proofs.Common.{subst, ℕ, List}
-use Rattle.problem_rules.specs.Problem.{Problem}
-use Rattle.branch_tree.specs.View.{claim_of}
-use Rattle.studio_rules.specs.Split.{SplitWork}
-use Rattle.studio_rules.specs.Ending.{Ends, Tells}
+use Rattle.network_commands.specs.problem_rules.Problem.{Problem}
+use Rattle.network_commands.specs.branch_tree.View.{claim_of}
+use Rattle.network_commands.specs.studio_rules.Split.{SplitWork}
+use Rattle.network_commands.specs.studio_rules.Ending.{Ends, Tells}
 use Rattle.part_commands.proofs.split.say_split.Goals as goal
 
 pub returns : goal.returns

@@ -1,12 +1,12 @@
 use Rattle.std.proofs.Common.{◌≡◌, ap, ℕ, List}
-use Rattle.studio_rules.specs.Reading.{TwoFilesSay}
-use Rattle.studio_rules.specs.TreeFile.{OnTree, TreeSays}
-use Rattle.studio_rules.specs.Split.{SplitWork}
-use Rattle.studio_rules.specs.Ending.{Says}
-use Rattle.studio_rules.specs.declared.status.Status.{Status}
-use Rattle.command_files.proofs.Ending.{Ends-map, Ends-from}
-use Rattle.command_files.proofs.Seconds.{on_both-faults, on_both-work}
-use Rattle.command_files.proofs.Keeping.{keeps_through}
+use Rattle.network_commands.specs.studio_rules.Reading.{TwoFilesSay}
+use Rattle.network_commands.specs.studio_rules.TreeFile.{OnTree, TreeSays}
+use Rattle.network_commands.specs.studio_rules.Split.{SplitWork}
+use Rattle.network_commands.specs.studio_rules.Ending.{Says}
+use Rattle.network_commands.specs.studio_rules.declared.status.Status.{Status}
+use Rattle.network_commands.proofs.command_files.Cited.{Ends-map, Ends-from, on_both-faults}
+use Rattle.network_commands.proofs.command_files.Cited.{on_both-work}
+use Rattle.network_commands.proofs.command_files.Cited.{keeps_through}
 use Rattle.part_commands.proofs.split.split.Goals as goal
 
 pub returns-in-Ok-clause-ends : goal.returns-in-Ok-clause-ends

@@ -1,6 +1,6 @@
 use Rattle.std.proofs.Common.{IfOk, string_bytes, ◌≡◌, List, ℕ, sym, subst}
-use Rattle.number_sets.proofs.SetLemmas.{listed-is}
-use Rattle.pns_rules.specs.Tokens.{token_of}
+use Rattle.network_commands.proofs.number_sets.Cited.{listed-is}
+use Rattle.network_commands.specs.pns_rules.Tokens.{token_of}
 use Rattle.part_commands.proofs.split.token_in.Goals as goal
 
 pub returns : goal.returns

@@ -1,8 +1,8 @@
 use Rattle.std.proofs.Common.{sym, subst}
 use Rattle.std.proofs.lemmas.Bool.{both_ways}
-use Rattle.number_sets.specs.Sets.{has}
-use Rattle.pns_rules.specs.Shape.{Shape}
-use Rattle.pns_rules.specs.Ends.{IsSound}
+use Rattle.network_commands.specs.number_sets.Sets.{has}
+use Rattle.network_commands.specs.pns_rules.Shape.{Shape}
+use Rattle.network_commands.specs.pns_rules.Ends.{IsSound}
 use Rattle.part_commands.proofs.Starts.{not_sound}
 use Rattle.part_commands.proofs.start.start_of.Goals as goal
 

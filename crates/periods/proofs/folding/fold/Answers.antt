@@ -4,7 +4,7 @@ use Rattle.std.specs.Int.{w128}
 use Rattle.std.specs.List.{range_with_len}
 use Rattle.std.proofs.lemmas.Int.{to_z-of_z}
 use Rattle.std.proofs.lemmas.Bool.{or_parts, ltb-false}
-use Rattle.plan_rules.specs.Folded.{Run, run_from, run_in}
+use Rattle.plan_laws.specs.plan_rules.Folded.{Run, run_from, run_in}
 use Rattle.periods.proofs.folding.fold.Goals as goal
 
 pub runs_of-requires-clause-few : goal.runs_of-requires-clause-few

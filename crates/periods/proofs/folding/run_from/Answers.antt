@@ -3,8 +3,8 @@ use Rattle.std.proofs.Common.{SFits, rules}
 use Rattle.std.specs.Prelude.{slice_index_or}
 use Rattle.std.specs.Int.{w128}
 use Rattle.std.proofs.lemmas.Int.{to_z-of_z}
-use Rattle.number_sets.specs.Sets.{has, with_number}
-use Rattle.tree_rules.specs.Claim.{size_in}
+use Rattle.plan_laws.specs.number_sets.Sets.{has, with_number}
+use Rattle.plan_laws.specs.tree_rules.Claim.{size_in}
 use Rattle.periods.proofs.DesignsTaken.{none_taken, no_sizes, units_with, sizes_more}
 use Rattle.periods.proofs.folding.run_from.Goals as goal
 

@@ -1,6 +1,6 @@
 use Rattle.std.proofs.Common.{◌≡◌, ◌+◌, map}
-use Rattle.number_sets.specs.Sets.{has, listed}
-use Rattle.tree_rules.specs.Claim.{size_in}
+use Rattle.plan_laws.specs.number_sets.Sets.{has, listed}
+use Rattle.plan_laws.specs.tree_rules.Claim.{size_in}
 use Rattle.periods.proofs.folding.run_from.Given as goal
 
 abbrev pub invariant-taking : goal.invariant-taking

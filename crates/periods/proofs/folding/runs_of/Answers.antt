@@ -1,6 +1,6 @@
 use Rattle.std.proofs.Common.{◌≡◌, ◌+◌, ◌*◌, ◌∙◌, [], ap, arith}
-use Rattle.plan_laws.proofs.Lists.{made_more}
-use Rattle.plan_rules.specs.Folded.{run_from}
+use Rattle.plan_laws.proofs.Cited.{made_more}
+use Rattle.plan_laws.specs.plan_rules.Folded.{run_from}
 use Rattle.periods.proofs.DesignsTaken.{within_limit}
 use Rattle.periods.proofs.folding.runs_of.Goals as goal
 

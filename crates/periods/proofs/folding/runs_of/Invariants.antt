@@ -1,6 +1,6 @@
 use Rattle.std.proofs.Common.{◌≡◌, ◌+◌, ◌*◌, map}
 use Rattle.std.specs.List.{range_with_len}
-use Rattle.plan_rules.specs.Folded.{run_from}
+use Rattle.plan_laws.specs.plan_rules.Folded.{run_from}
 use Rattle.periods.proofs.folding.runs_of.Given as goal
 
 abbrev pub invariant-running : goal.invariant-running

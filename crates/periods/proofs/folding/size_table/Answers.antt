@@ -1,6 +1,6 @@
 use Rattle.std.proofs.Common.{◌≡◌, ◌∙◌, List, ℕ, true, sym, subst}
-use Rattle.number_sets.specs.Sets.{has}
-use Rattle.flow_rules.specs.Net.{beside}
+use Rattle.plan_laws.specs.number_sets.Sets.{has}
+use Rattle.plan_laws.specs.flow_rules.Net.{beside}
 use Rattle.periods.proofs.folding.size_table.Goals as goal
 
 pub returns : goal.returns

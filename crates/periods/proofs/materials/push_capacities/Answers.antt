@@ -1,5 +1,5 @@
-use Rattle.plan_rules.specs.Expanded.{capacity}
-use Rattle.plan_laws.proofs.Lists.{made_more}
+use Rattle.plan_laws.specs.plan_rules.Expanded.{capacity}
+use Rattle.plan_laws.proofs.Cited.{made_more}
 use Rattle.periods.proofs.materials.push_capacities.Goals as goal
 
 pub building-preserved : goal.building-preserved

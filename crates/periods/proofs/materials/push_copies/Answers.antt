@@ -1,5 +1,5 @@
-use Rattle.plan_rules.specs.Expanded.{copy}
-use Rattle.plan_laws.proofs.Lists.{made_more}
+use Rattle.plan_laws.specs.plan_rules.Expanded.{copy}
+use Rattle.plan_laws.proofs.Cited.{made_more}
 use Rattle.periods.proofs.materials.push_copies.Goals as goal
 
 pub copying-preserved : goal.copying-preserved

@@ -1,6 +1,6 @@
 use Rattle.std.proofs.Common.{◌≡◌, ◌++◌, map}
 use Rattle.std.specs.List.{range_with_len}
-use Rattle.plan_rules.specs.Expanded.{copy}
+use Rattle.plan_laws.specs.plan_rules.Expanded.{copy}
 use Rattle.periods.proofs.materials.push_copies.Given as goal
 
 abbrev pub invariant-copying : goal.invariant-copying

@@ -1,8 +1,8 @@
 use Rattle.std.proofs.Common.{◌≡◌, ◌++◌, ap, sym, ◌∙◌, arith}
 use Rattle.std.specs.Prelude.{slice_index_or}
-use Rattle.plan_laws.proofs.Lists.{blocks_more, same_default}
-use Rattle.plan_rules.specs.Expanded.{copies, capacities, period_materials}
-use Rattle.plan_rules.specs.Plan.{Period, no_period}
+use Rattle.plan_laws.proofs.Cited.{blocks_more, same_default}
+use Rattle.plan_laws.specs.plan_rules.Expanded.{copies, capacities, period_materials}
+use Rattle.plan_laws.specs.plan_rules.Plan.{Period, no_period}
 use Rattle.periods.proofs.materials.push_periods.Goals as goal
 
 pub copying-preserved : goal.copying-preserved

@@ -1,6 +1,6 @@
 use Rattle.std.proofs.Common.{◌≡◌, ◌++◌}
 use Rattle.std.specs.List.{range_with_len, flat_map}
-use Rattle.plan_rules.specs.Expanded.{period_materials}
+use Rattle.plan_laws.specs.plan_rules.Expanded.{period_materials}
 use Rattle.periods.proofs.materials.push_periods.Given as goal
 
 abbrev pub invariant-copying : goal.invariant-copying

@@ -1,6 +1,6 @@
 use Rattle.std.proofs.Common.{[]}
-use Rattle.plan_rules.specs.Expanded.{site}
-use Rattle.plan_laws.proofs.Lists.{made_more}
+use Rattle.plan_laws.specs.plan_rules.Expanded.{site}
+use Rattle.plan_laws.proofs.Cited.{made_more}
 use Rattle.periods.proofs.materials.sites.Goals as goal
 
 pub building-preserved : goal.building-preserved

@@ -1,6 +1,6 @@
 use Rattle.std.proofs.Common.{◌≡◌, map}
 use Rattle.std.specs.List.{range_with_len}
-use Rattle.plan_rules.specs.Expanded.{site}
+use Rattle.plan_laws.specs.plan_rules.Expanded.{site}
 use Rattle.periods.proofs.materials.sites.Given as goal
 
 abbrev pub invariant-building : goal.invariant-building

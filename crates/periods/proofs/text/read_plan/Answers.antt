@@ -1,7 +1,7 @@
 use Rattle.std.proofs.Common.{◌≡◌, Result, Ok, IfOk, IfErr, sym, subst}
-use Rattle.plan_rules.specs.Meaning.{read_plan}
-use Rattle.plan_rules.specs.Plan.{Plan}
-use Rattle.plan_rules.specs.Read.{Fault}
+use Rattle.plan_laws.specs.plan_rules.Meaning.{read_plan}
+use Rattle.plan_laws.specs.plan_rules.Plan.{Plan}
+use Rattle.plan_laws.specs.plan_rules.Read.{Fault}
 use Rattle.text_lines.specs.Tells.{Tells}
 use Rattle.periods.specs.Reading.{rest_read}
 use Rattle.periods.proofs.Valid.{read_valid}

@@ -1,6 +1,6 @@
 use Rattle.std.proofs.Common.{◌≡◌, map}
 use Rattle.std.specs.List.{range_with_len}
-use Rattle.plan_rules.specs.Expanded.{built}
+use Rattle.plan_laws.specs.plan_rules.Expanded.{built}
 use Rattle.periods.proofs.units.built_units.Given as goal
 
 abbrev pub invariant-building : goal.invariant-building

@@ -1,6 +1,6 @@
 use Rattle.std.proofs.Common.{[], ap, ◌∙◌}
-use Rattle.plan_laws.proofs.Lists.{made_more}
-use Rattle.plan_rules.specs.Expanded.{at_rate_one, capacity_of}
+use Rattle.plan_laws.proofs.Cited.{made_more}
+use Rattle.plan_laws.specs.plan_rules.Expanded.{at_rate_one, capacity_of}
 use Rattle.periods.proofs.units.capacities_of.Goals as goal
 
 pub making-preserved : goal.making-preserved

@@ -1,6 +1,6 @@
 use Rattle.std.proofs.Common.{◌≡◌, map}
 use Rattle.std.specs.List.{range_with_len}
-use Rattle.plan_rules.specs.Expanded.{at_rate_one, capacity_of}
+use Rattle.plan_laws.specs.plan_rules.Expanded.{at_rate_one, capacity_of}
 use Rattle.periods.proofs.units.capacities_of.Given as goal
 
 abbrev pub invariant-making : goal.invariant-making

@@ -1,5 +1,5 @@
-use Rattle.plan_rules.specs.Expanded.{running}
-use Rattle.plan_laws.proofs.Lists.{made_more}
+use Rattle.plan_laws.specs.plan_rules.Expanded.{running}
+use Rattle.plan_laws.proofs.Cited.{made_more}
 use Rattle.periods.proofs.units.push_period.Goals as goal
 
 pub running-preserved : goal.running-preserved

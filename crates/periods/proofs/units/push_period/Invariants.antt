@@ -1,6 +1,6 @@
 use Rattle.std.proofs.Common.{◌≡◌, ◌++◌, map}
 use Rattle.std.specs.List.{range_with_len}
-use Rattle.plan_rules.specs.Expanded.{running}
+use Rattle.plan_laws.specs.plan_rules.Expanded.{running}
 use Rattle.periods.proofs.units.push_period.Given as goal
 
 abbrev pub invariant-running : goal.invariant-running

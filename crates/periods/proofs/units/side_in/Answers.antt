@@ -1,7 +1,7 @@
 use Rattle.std.proofs.Common.{◌≡◌, ap, ◌∙◌, arith, length, get_or}
-use Rattle.problem_rules.specs.Problem.{Term}
-use Rattle.problem_rules.specs.WellFormed.{IsWellFormedTerm}
-use Rattle.plan_laws.proofs.Lists.{each_at}
+use Rattle.plan_laws.specs.problem_rules.Problem.{Term}
+use Rattle.plan_laws.specs.problem_rules.WellFormed.{IsWellFormedTerm}
+use Rattle.plan_laws.proofs.Cited.{each_at}
 use Rattle.periods.proofs.units.side_in.Goals as goal
 
 pub overflow_add-first : goal.overflow_add-first

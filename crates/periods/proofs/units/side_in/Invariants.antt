@@ -1,5 +1,5 @@
 use Rattle.std.proofs.Common.{◌≡◌, take}
-use Rattle.plan_rules.specs.Expanded.{side_in}
+use Rattle.plan_laws.specs.plan_rules.Expanded.{side_in}
 use Rattle.periods.proofs.units.side_in.Given as goal
 
 abbrev pub invariant-moving : goal.invariant-moving

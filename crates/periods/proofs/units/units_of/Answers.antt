@@ -1,5 +1,5 @@
-use Rattle.plan_laws.proofs.Lists.{blocks_more}
-use Rattle.plan_rules.specs.Expanded.{built_units, period_units}
+use Rattle.plan_laws.proofs.Cited.{blocks_more}
+use Rattle.plan_laws.specs.plan_rules.Expanded.{built_units, period_units}
 use Rattle.periods.proofs.units.units_of.Goals as goal
 
 pub copying-preserved : goal.copying-preserved

@@ -1,6 +1,6 @@
 use Rattle.std.proofs.Common.{◌≡◌, ◌++◌, flat_map}
 use Rattle.std.specs.List.{range_with_len}
-use Rattle.plan_rules.specs.Expanded.{built_units, period_units}
+use Rattle.plan_laws.specs.plan_rules.Expanded.{built_units, period_units}
 use Rattle.periods.proofs.units.units_of.Given as goal
 
 abbrev pub invariant-copying : goal.invariant-copying

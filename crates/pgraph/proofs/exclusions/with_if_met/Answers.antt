@@ -1,6 +1,6 @@
 use Rattle.std.proofs.Common.{◌≡◌, ◌∙◌, sym, true, subst, ◌↔◌, ℕ, List}
 use Rattle.std.proofs.lemmas.Bool.{both_ways}
-use Rattle.number_sets.specs.Sets.{has}
+use Rattle.flow_rules.specs.number_sets.Sets.{has}
 use Rattle.pgraph.specs.Rivals.{IsFoundOrMet}
 use Rattle.pgraph.proofs.ExclusionLemmas.{met_none, met_some}
 use Rattle.pgraph.proofs.exclusions.with_if_met.Goals as goal

@@ -1,7 +1,7 @@
 use Rattle.std.proofs.Common.{◌∙◌, ap, sym, get_or, length, length-append, ◌+◌, ℕ, List, [], ◌∷◌}
 use Rattle.std.proofs.lemmas.List.{get_or_default}
-use Rattle.number_sets.specs.Sets.{has}
-use Rattle.problem_rules.specs.Problem.{Exclusion, no_exclusion}
+use Rattle.flow_rules.specs.number_sets.Sets.{has}
+use Rattle.flow_rules.specs.problem_rules.Problem.{Exclusion, no_exclusion}
 use Rattle.pgraph.proofs.TableLemmas.{set_more}
 use Rattle.pgraph.proofs.tables.excluded_units.Goals as goal
 

@@ -1,5 +1,5 @@
 use Rattle.std.proofs.Common.{◌≡◌, ◌<◌, ℕ, [], length, get_or}
-use Rattle.number_sets.specs.Sets.{has}
+use Rattle.flow_rules.specs.number_sets.Sets.{has}
 use Rattle.pgraph.specs.Building.{units_excluded}
 use Rattle.pgraph.proofs.tables.excluded_units.Given as goal
 

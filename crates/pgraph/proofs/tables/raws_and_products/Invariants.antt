@@ -1,5 +1,5 @@
 use Rattle.std.proofs.Common.{◌≡◌, ◌&&◌, ℕ, nat_lt}
-use Rattle.number_sets.specs.Sets.{has}
+use Rattle.flow_rules.specs.number_sets.Sets.{has}
 use Rattle.pgraph.specs.Building.{is_raw_at, is_product_at}
 use Rattle.pgraph.proofs.tables.raws_and_products.Given as goal
 

@@ -1,5 +1,5 @@
 use Rattle.std.proofs.Common.{◌≡◌, ℕ, take}
-use Rattle.number_sets.specs.Sets.{has}
+use Rattle.flow_rules.specs.number_sets.Sets.{has}
 use Rattle.pgraph.proofs.tables.set_of.Given as goal
 
 abbrev pub invariant-loop-u : goal.invariant-loop-u

@@ -1,6 +1,6 @@
 use Rattle.std.proofs.Common.{◌∙◌, ◌&&◌, ◌||◌, ◌==◌, ap, sym}
-use Rattle.number_sets.specs.Sets.{has}
-use Rattle.number_sets.proofs.SetLemmas.{has-with_number}
+use Rattle.flow_rules.specs.number_sets.Sets.{has}
+use Rattle.flow_rules.proofs.number_sets.Cited.{has-with_number}
 use Rattle.pgraph.proofs.tables.with_if.Goals as goal
 
 pub returns-then-belongs : goal.returns-then-belongs

@@ -1,5 +1,5 @@
 use Rattle.std.proofs.Common.{◌≡◌, take, map, string_bytes}
-use Rattle.edit_rules.specs.Place.{member_names}
+use Rattle.edit_laws.specs.edit_rules.Place.{member_names}
 use Rattle.pns_edits.proofs.members.member_names.Given as goal
 
 abbrev pub invariant-naming : goal.invariant-naming

@@ -1,5 +1,5 @@
 use Rattle.std.proofs.Common.{◌≡◌}
-use Rattle.number_sets.specs.Sets.{has, listed}
+use Rattle.edit_laws.specs.number_sets.Sets.{has, listed}
 use Rattle.pns_edits.proofs.members.rising.Given as goal
 
 abbrev pub invariant-listing : goal.invariant-listing

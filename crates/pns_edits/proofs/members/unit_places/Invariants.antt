@@ -1,5 +1,5 @@
 use Rattle.std.proofs.Common.{◌≡◌, take, drop, map, string_bytes}
-use Rattle.edit_rules.specs.Place.{unit_place, lacks_unit}
+use Rattle.edit_laws.specs.edit_rules.Place.{unit_place, lacks_unit}
 use Rattle.pns_edits.proofs.members.unit_places.Given as goal
 
 abbrev pub invariant-placing : goal.invariant-placing

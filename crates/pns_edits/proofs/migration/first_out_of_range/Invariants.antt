@@ -1,6 +1,6 @@
 use Rattle.std.proofs.Common.{◌≡◌, pos, drop}
 use Rattle.std.specs.List.{position_from}
-use Rattle.edit_rules.specs.Migration.{migrates_out_of_range}
+use Rattle.edit_laws.specs.edit_rules.Migration.{migrates_out_of_range}
 use Rattle.pns_edits.specs.Terms.{AreAllYearlyInRange}
 use Rattle.pns_edits.proofs.migration.first_out_of_range.Given as goal
 

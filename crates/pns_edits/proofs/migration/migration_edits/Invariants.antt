@@ -1,6 +1,6 @@
 use Rattle.std.proofs.Common.{◌≡◌, ◌++◌, pos, map, drop}
 use Rattle.std.specs.Prelude.{flat_map}
-use Rattle.edit_rules.specs.Migration.{unit_migration, migration}
+use Rattle.edit_laws.specs.edit_rules.Migration.{unit_migration, migration}
 use Rattle.edit_scripts.specs.View.{edit_of}
 use Rattle.pns_edits.specs.Terms.{AreAllYearlyInRange}
 use Rattle.pns_edits.proofs.migration.migration_edits.Given as goal

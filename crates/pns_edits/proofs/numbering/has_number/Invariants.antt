@@ -1,5 +1,5 @@
 use Rattle.std.proofs.Common.{◌≡◌, drop}
-use Rattle.number_sets.specs.Sets.{has}
+use Rattle.edit_laws.specs.number_sets.Sets.{has}
 use Rattle.pns_edits.proofs.numbering.has_number.Given as goal
 
 abbrev pub invariant-looking : goal.invariant-looking

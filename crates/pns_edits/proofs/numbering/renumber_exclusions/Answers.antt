@@ -1,6 +1,6 @@
 use Rattle.std.proofs.Common.{map, ap, ◌∙◌, arith}
 use Rattle.std.proofs.lemmas.List.{with_items_is}
-use Rattle.edit_rules.specs.Numbering.{in_exclusion}
+use Rattle.edit_laws.specs.edit_rules.Numbering.{in_exclusion}
 use Rattle.pns_edits.specs.Renumbering.{new_number}
 use Rattle.pns_edits.proofs.MappedLemmas.{changed_next, in_exclusion_is}
 use Rattle.pns_edits.proofs.numbering.renumber_exclusions.Goals as goal

@@ -1,4 +1,4 @@
-use Rattle.edit_rules.specs.Numbering.{in_term}
+use Rattle.edit_laws.specs.edit_rules.Numbering.{in_term}
 use Rattle.pns_edits.specs.Renumbering.{new_number}
 use Rattle.pns_edits.proofs.MappedLemmas.{changed_next, in_term_is}
 use Rattle.pns_edits.proofs.numbering.renumber_terms.Goals as goal

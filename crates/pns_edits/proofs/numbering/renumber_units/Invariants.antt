@@ -1,5 +1,5 @@
 use Rattle.std.proofs.Common.{◌≡◌, ◌++◌, map, take, drop}
-use Rattle.edit_rules.specs.Numbering.{in_unit}
+use Rattle.edit_laws.specs.edit_rules.Numbering.{in_unit}
 use Rattle.pns_edits.specs.Renumbering.{new_number}
 use Rattle.pns_edits.proofs.numbering.renumber_units.Given as goal
 

@@ -1,5 +1,5 @@
 use Rattle.std.proofs.Common.{◌≡◌, drop}
-use Rattle.problem_rules.specs.Problem.{terms_have}
+use Rattle.edit_laws.specs.problem_rules.Problem.{terms_have}
 use Rattle.pns_edits.proofs.numbering.terms_have.Given as goal
 
 abbrev pub invariant-looking : goal.invariant-looking

@@ -1,6 +1,6 @@
 use Rattle.std.proofs.Common.{drop, string_bytes}
 use Rattle.pns_edits.proofs.Sought.{IsSought}
-use Rattle.problem_rules.specs.Problem.{unit_names}
+use Rattle.edit_laws.specs.problem_rules.Problem.{unit_names}
 use Rattle.pns_edits.proofs.place.unit_place.Given as goal
 
 abbrev pub invariant-looking : goal.invariant-looking

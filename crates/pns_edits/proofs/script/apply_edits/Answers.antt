@@ -1,9 +1,9 @@
 use Rattle.std.proofs.Common.{◌≡◌, ◌++◌, List, [], map, reverse, drop, slice_index_or, ap, ◌∙◌}
 use Rattle.std.proofs.Common.{subst}
 use Rattle.std.proofs.lemmas.List.{drop_all}
-use Rattle.edit_rules.specs.Edit as rules
-use Rattle.edit_rules.specs.Fault.{fault_of}
-use Rattle.edit_rules.specs.Script.{undoing, IsFirstFault}
+use Rattle.edit_laws.specs.edit_rules.Edit as rules
+use Rattle.edit_laws.specs.edit_rules.Fault.{fault_of}
+use Rattle.edit_laws.specs.edit_rules.Script.{undoing, IsFirstFault}
 use Rattle.edit_scripts.specs.View.{edit_of}
 use Rattle.pns_edits.specs.Answer.{Tells}
 use Rattle.pns_edits.proofs.MappedLemmas.{map-reverse}

@@ -1,5 +1,5 @@
 use Rattle.std.proofs.Common.{◌≡◌, take, drop}
-use Rattle.edit_rules.specs.Place.{numbered_terms, lacks_material}
+use Rattle.edit_laws.specs.edit_rules.Place.{numbered_terms, lacks_material}
 use Rattle.pns_edits.proofs.terms.numbered_terms.Given as goal
 
 abbrev pub invariant-numbering : goal.invariant-numbering

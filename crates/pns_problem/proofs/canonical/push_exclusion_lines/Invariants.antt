@@ -1,5 +1,5 @@
 use Rattle.std.proofs.Common.{length, string_bytes}
-use Rattle.problem_rules.specs.Problem.{unit_names}
+use Rattle.text_rules.specs.problem_rules.Problem.{unit_names}
 use Rattle.pns_problem.specs.Printing.{exclusion_line, HasKnownMembers}
 use Rattle.pns_problem.proofs.Printed.{AreFitLinesPrinted}
 use Rattle.pns_problem.proofs.canonical.push_exclusion_lines.Given as goal

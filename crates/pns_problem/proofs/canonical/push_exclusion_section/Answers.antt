@@ -1,6 +1,6 @@
 use Rattle.std.proofs.Common.{◌<◌, length, string_bytes, arith}
 use Rattle.std.proofs.lemmas.Grind.{common_steps}
-use Rattle.problem_rules.specs.Problem.{unit_names}
+use Rattle.text_rules.specs.problem_rules.Problem.{unit_names}
 use Rattle.pns_problem.specs.Printing.{exclusion_line}
 use Rattle.pns_problem.proofs.PrintingLemmas.{section_text}
 use Rattle.pns_problem.proofs.canonical.push_exclusion_section.Goals as goal

@@ -1,6 +1,6 @@
 use Rattle.pns_problem.proofs.Printed.{AreTermsPrinted}
 use Rattle.std.proofs.Common.{length, string_bytes}
-use Rattle.problem_rules.specs.Problem.{material_names}
+use Rattle.text_rules.specs.problem_rules.Problem.{material_names}
 use Rattle.pns_problem.proofs.canonical.push_further_terms.Given as goal
 
 abbrev pub invariant-printing : goal.invariant-printing

@@ -1,6 +1,6 @@
 use Rattle.std.proofs.Common.{◌++◌, [], ap, ◌∙◌, string_bytes}
 use Rattle.text_rules.specs.Canonical.{kind_word, named}
-use Rattle.problem_rules.specs.Problem.{Material}
+use Rattle.text_rules.specs.problem_rules.Problem.{Material}
 use Rattle.pns_problem.specs.Printing.{material_amounts}
 use Rattle.pns_problem.proofs.PrintingLemmas.{line_of_items}
 use Rattle.pns_problem.proofs.canonical.push_material.Goals as goal

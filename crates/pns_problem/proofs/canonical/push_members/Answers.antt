@@ -1,7 +1,7 @@
 use Rattle.std.proofs.Common.{◌≡◌, ◌++◌, get_or, string_bytes, arith}
 use Rattle.std.proofs.lemmas.Grind.{common_steps}
 use Rattle.text_rules.specs.Canonical.{name_at}
-use Rattle.problem_rules.specs.Problem.{unit_names}
+use Rattle.text_rules.specs.problem_rules.Problem.{unit_names}
 use Rattle.pns_problem.proofs.PrintingLemmas.{members_text}
 use Rattle.pns_problem.proofs.canonical.push_members.Goals as goal
 

@@ -1,6 +1,6 @@
 use Rattle.std.proofs.Common.{◌++◌, map, string_bytes, ap, ◌∙◌, w64, SFits, rules}
 use Rattle.std.proofs.lemmas.Int.{to_z-of_z}
-use Rattle.problem_rules.specs.Problem.{Problem, material_names, unit_names}
+use Rattle.text_rules.specs.problem_rules.Problem.{Problem, material_names, unit_names}
 use Rattle.text_rules.specs.Canonical.{payout_lines, exclusion_section}
 use Rattle.pns_problem.specs.Printing.{printed, material_line, unit_line, rates_line}
 use Rattle.pns_problem.specs.Printing.{exclusion_line}

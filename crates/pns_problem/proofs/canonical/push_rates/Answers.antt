@@ -1,6 +1,6 @@
 use Rattle.std.proofs.Common.{◌++◌, ap, ◌∙◌, string_bytes}
 use Rattle.text_rules.specs.Canonical.{token_text, side_tokens}
-use Rattle.problem_rules.specs.Problem.{OperatingUnit, material_names}
+use Rattle.text_rules.specs.problem_rules.Problem.{OperatingUnit, material_names}
 use Rattle.pns_problem.proofs.PrintingLemmas.{line_of_rates}
 use Rattle.pns_problem.proofs.canonical.push_rates.Goals as goal
 

@@ -1,5 +1,5 @@
 use Rattle.std.proofs.Common.{length, string_bytes}
-use Rattle.problem_rules.specs.Problem.{material_names}
+use Rattle.text_rules.specs.problem_rules.Problem.{material_names}
 use Rattle.pns_problem.specs.Printing.{rates_line, IsPrintable}
 use Rattle.pns_problem.proofs.Printed.{AreFitLinesPrinted}
 use Rattle.pns_problem.proofs.canonical.push_rates_lines.Given as goal

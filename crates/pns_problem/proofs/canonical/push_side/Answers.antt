@@ -1,5 +1,5 @@
 use Rattle.std.proofs.Common.{string_bytes}
-use Rattle.problem_rules.specs.Problem.{material_names}
+use Rattle.text_rules.specs.problem_rules.Problem.{material_names}
 use Rattle.pns_problem.proofs.PrintingLemmas.{side_of_terms}
 use Rattle.pns_problem.proofs.canonical.push_side.Goals as goal
 

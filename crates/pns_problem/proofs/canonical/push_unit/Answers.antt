@@ -2,7 +2,7 @@ use Rattle.std.proofs.Common.{rules, ◌++◌, [], ap, ◌∙◌, string_bytes, 
 use Rattle.std.proofs.lemmas.Int.{to_z-of_z}
 use Rattle.text_rules.specs.Printed.{amount_bytes}
 use Rattle.text_rules.specs.Canonical.{field, named}
-use Rattle.problem_rules.specs.Problem.{OperatingUnit}
+use Rattle.text_rules.specs.problem_rules.Problem.{OperatingUnit}
 use Rattle.pns_problem.specs.Printing.{unit_amounts, unit_investment_fix}
 use Rattle.pns_problem.specs.Printing.{unit_investment_proportional}
 use Rattle.pns_problem.proofs.PrintingLemmas.{line_of_parts}

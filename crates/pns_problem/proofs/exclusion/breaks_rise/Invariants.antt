@@ -1,5 +1,5 @@
 use Rattle.std.proofs.Common.{◌≡◌, drop}
-use Rattle.problem_rules.specs.Validity.{breaks_rise}
+use Rattle.text_rules.specs.problem_rules.Validity.{breaks_rise}
 use Rattle.pns_problem.proofs.exclusion.breaks_rise.Given as goal
 
 abbrev pub invariant-looking : goal.invariant-looking

@@ -1,7 +1,7 @@
 use Rattle.pns_problem.proofs.ValidLemmas.{valid_parts}
 use Rattle.std.proofs.Common.{◌∙◌, ap}
-use Rattle.problem_rules.specs.Draws.{state_after}
-use Rattle.problem_rules.specs.Generated.{materials_of, units_of, chain_length}
+use Rattle.text_rules.specs.problem_rules.Draws.{state_after}
+use Rattle.text_rules.specs.problem_rules.Generated.{materials_of, units_of, chain_length}
 use Rattle.pns_problem.proofs.generator_problem.generate.Goals as goal
 
 pub build_valid-requires : goal.build_valid-requires

@@ -1,4 +1,4 @@
-use Rattle.problem_rules.specs.Generated.{generated}
+use Rattle.text_rules.specs.problem_rules.Generated.{generated}
 use Rattle.pns_problem.proofs.ValidLemmas.{generated_is_well_formed}
 use Rattle.pns_problem.proofs.generator_problem.generated_is_valid.Goals as goal
 

@@ -1,5 +1,5 @@
 use Rattle.std.proofs.Common.{◌≡◌, drop}
-use Rattle.problem_rules.specs.Validity.{has_product}
+use Rattle.text_rules.specs.problem_rules.Validity.{has_product}
 use Rattle.pns_problem.proofs.material.has_product.Given as goal
 
 abbrev pub invariant-looking : goal.invariant-looking

@@ -1,4 +1,4 @@
-use Rattle.problem_rules.specs.Generated.{intermediate_of}
+use Rattle.text_rules.specs.problem_rules.Generated.{intermediate_of}
 use Rattle.pns_problem.proofs.RangeLemmas.{made_more}
 use Rattle.pns_problem.proofs.materials.push_intermediates.Goals as goal
 

@@ -1,5 +1,5 @@
 use Rattle.std.proofs.Common.{◌≡◌, ◌++◌}
-use Rattle.problem_rules.specs.Generated.{intermediates}
+use Rattle.text_rules.specs.problem_rules.Generated.{intermediates}
 use Rattle.pns_problem.proofs.materials.push_intermediates.Given as goal
 
 abbrev pub invariant-chaining : goal.invariant-chaining

@@ -1,7 +1,7 @@
 use Rattle.std.proofs.Common.{◌≡◌, map}
 use Rattle.std.specs.List.{range_with_len}
-use Rattle.problem_rules.specs.Draws.{state_after}
-use Rattle.problem_rules.specs.Generated.{raw_of}
+use Rattle.text_rules.specs.problem_rules.Draws.{state_after}
+use Rattle.text_rules.specs.problem_rules.Generated.{raw_of}
 use Rattle.pns_problem.proofs.materials.raw_materials.Given as goal
 
 abbrev pub invariant-pricing : goal.invariant-pricing

@@ -1,6 +1,6 @@
 use Rattle.std.proofs.Common.{◌≡◌, drop}
-use Rattle.problem_rules.specs.Problem.{rates_of}
-use Rattle.problem_rules.specs.Validity.{any_below_one}
+use Rattle.text_rules.specs.problem_rules.Problem.{rates_of}
+use Rattle.text_rules.specs.problem_rules.Validity.{any_below_one}
 use Rattle.pns_problem.proofs.term.any_below_one.Given as goal
 
 abbrev pub invariant-looking : goal.invariant-looking

@@ -1,6 +1,6 @@
 use Rattle.std.proofs.Common.{◌≡◌, drop}
-use Rattle.problem_rules.specs.Problem.{rates_of}
-use Rattle.problem_rules.specs.Validity.{any_out_of_range}
+use Rattle.text_rules.specs.problem_rules.Problem.{rates_of}
+use Rattle.text_rules.specs.problem_rules.Validity.{any_out_of_range}
 use Rattle.pns_problem.proofs.term.any_out_of_range.Given as goal
 
 abbrev pub invariant-looking : goal.invariant-looking

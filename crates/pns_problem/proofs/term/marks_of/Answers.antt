@@ -1,6 +1,6 @@
 use Rattle.std.proofs.Common.{ap}
 use Rattle.pns_problem.proofs.MarkLemmas.{none_marked, marked_more}
-use Rattle.problem_rules.specs.Problem.{Term}
+use Rattle.text_rules.specs.problem_rules.Problem.{Term}
 use Rattle.pns_problem.proofs.term.marks_of.Goals as goal
 
 pub marking-init : goal.marking-init

@@ -1,5 +1,5 @@
 use Rattle.std.proofs.Common.{◌≡◌, drop}
-use Rattle.problem_rules.specs.Validity.{names_no_material}
+use Rattle.text_rules.specs.problem_rules.Validity.{names_no_material}
 use Rattle.pns_problem.proofs.term.names_no_material.Given as goal
 
 abbrev pub invariant-looking : goal.invariant-looking

@@ -1,6 +1,6 @@
 use Rattle.std.proofs.Common.{ap}
 use Rattle.pns_problem.proofs.MarkLemmas.{none_repeated, repeat_found, none_repeats}
-use Rattle.problem_rules.specs.Problem.{Term}
+use Rattle.text_rules.specs.problem_rules.Problem.{Term}
 use Rattle.pns_problem.proofs.term.repeats_material.Goals as goal
 
 pub looking-init : goal.looking-init

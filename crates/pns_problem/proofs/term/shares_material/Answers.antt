@@ -1,6 +1,6 @@
 use Rattle.std.proofs.Common.{ap}
 use Rattle.pns_problem.proofs.MarkLemmas.{share_found, none_shared}
-use Rattle.problem_rules.specs.Problem.{Term}
+use Rattle.text_rules.specs.problem_rules.Problem.{Term}
 use Rattle.pns_problem.proofs.term.shares_material.Goals as goal
 
 pub returns-then-marked-term : goal.returns-then-marked-term

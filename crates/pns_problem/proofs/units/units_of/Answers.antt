@@ -1,6 +1,6 @@
 use Rattle.std.proofs.Common.{◌∙◌, ap, sym, []}
-use Rattle.problem_rules.specs.Draws.{state_after}
-use Rattle.problem_rules.specs.Generated.{unit, unit_in_turn}
+use Rattle.text_rules.specs.problem_rules.Draws.{state_after}
+use Rattle.text_rules.specs.problem_rules.Generated.{unit, unit_in_turn}
 use Rattle.pns_problem.proofs.DrawLemmas.{five_more}
 use Rattle.pns_problem.proofs.RangeLemmas.{made_more}
 use Rattle.pns_problem.proofs.units.units_of.Goals as goal

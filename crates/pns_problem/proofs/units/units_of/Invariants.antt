@@ -1,6 +1,6 @@
 use Rattle.std.proofs.Common.{◌≡◌, ◌*◌}
-use Rattle.problem_rules.specs.Draws.{state_after}
-use Rattle.problem_rules.specs.Generated.{units_of}
+use Rattle.text_rules.specs.problem_rules.Draws.{state_after}
+use Rattle.text_rules.specs.problem_rules.Generated.{units_of}
 use Rattle.pns_problem.proofs.units.units_of.Given as goal
 
 abbrev pub invariant-making : goal.invariant-making

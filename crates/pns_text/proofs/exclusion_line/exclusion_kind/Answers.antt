@@ -2,9 +2,9 @@ use Rattle.std.proofs.Common.{◌≡◌, ◌<◌, ◌≤◌, ◌∙◌, Bool, tr
 use Rattle.std.proofs.Common.{Option, Some, None, is_some, if◌then◌else◌, length, refl, sym, ap}
 use Rattle.std.proofs.Common.{arith}
 use Rattle.std.proofs.lemmas.Bool.{le-leb, lt-leb, lt-ltb, le-ltb}
-use Rattle.problem_rules.specs.Names.{has_double}
+use Rattle.text_lines.specs.problem_rules.Names.{has_double}
 use Rattle.text_lines.specs.View.{texts}
-use Rattle.text_lines.proofs.Borrowed.{texts-long}
+use Rattle.text_lines.proofs.Cited.{texts-long}
 use Rattle.pns_text.proofs.exclusion_line.exclusion_kind.Goals as goal
 
 is_double : (b : Bool) (items : List (List ℕ)) (found : Option (List (List ℕ)))

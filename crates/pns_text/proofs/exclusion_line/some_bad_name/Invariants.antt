@@ -1,6 +1,6 @@
 use Rattle.std.proofs.Common.{◌≡◌, drop, not}
 use Rattle.std.specs.List.{list_any}
-use Rattle.problem_rules.specs.Names.{is_name}
+use Rattle.text_lines.specs.problem_rules.Names.{is_name}
 use Rattle.text_lines.specs.View.{texts}
 use Rattle.pns_text.proofs.exclusion_line.some_bad_name.Given as goal
 

@@ -1,5 +1,5 @@
 use Rattle.std.proofs.Common.{◌≡◌, drop}
-use Rattle.text_rules.specs.Value.{value_at, item_fields}
+use Rattle.text_lines.specs.text_rules.Value.{value_at, item_fields}
 use Rattle.pns_text.proofs.item.field_at.Given as goal
 
 abbrev pub invariant-loop-item : goal.invariant-loop-item

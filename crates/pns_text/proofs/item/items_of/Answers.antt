@@ -1,5 +1,5 @@
 use Rattle.std.proofs.Common.{◌<◌, ◌≤◌, ◌∷◌, ◌++◌, ℕ, List, [], length, ap, ◌∙◌, arith}
-use Rattle.text_rules.specs.Field.{items_of}
+use Rattle.text_lines.specs.text_rules.Field.{items_of}
 use Rattle.pns_text.proofs.ItemLines.{items_more, items_last}
 use Rattle.pns_text.proofs.item.items_of.Goals as goal
 

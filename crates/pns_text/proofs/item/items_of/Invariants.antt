@@ -1,8 +1,8 @@
 use Rattle.std.proofs.Common.{◌≡◌, ◌==◌, ◌++◌, length, map}
 use Rattle.std.specs.List.{slice_split}
 use Rattle.std.specs.Str.{byte}
-use Rattle.text_rules.specs.Blanks.{trim}
-use Rattle.text_rules.specs.Field.{items_of}
+use Rattle.text_lines.specs.text_rules.Blanks.{trim}
+use Rattle.text_lines.specs.text_rules.Field.{items_of}
 use Rattle.pns_text.proofs.item.items_of.Given as goal
 
 -- the items so far, and those that remain

@@ -1,6 +1,6 @@
 use Rattle.std.proofs.Common.{◌≡◌, drop}
-use Rattle.problem_rules.specs.Names.{has_double}
-use Rattle.text_rules.specs.Fault.{keys_in}
+use Rattle.text_lines.specs.problem_rules.Names.{has_double}
+use Rattle.text_lines.specs.text_rules.Fault.{keys_in}
 use Rattle.pns_text.proofs.item.some_double_key.Given as goal
 
 abbrev pub invariant-loop-i : goal.invariant-loop-i

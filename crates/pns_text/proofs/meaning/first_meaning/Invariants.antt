@@ -1,5 +1,5 @@
 use Rattle.std.proofs.Common.{◌≡◌, drop}
-use Rattle.text_rules.specs.Value.{first_meaning}
+use Rattle.text_lines.specs.text_rules.Value.{first_meaning}
 use Rattle.pns_text.proofs.meaning.first_meaning.Given as goal
 
 abbrev pub invariant-loop-line : goal.invariant-loop-line

@@ -1,6 +1,6 @@
 use Rattle.std.proofs.Common.{◌≡◌, not, drop}
 use Rattle.std.specs.List.{list_any}
-use Rattle.text_rules.specs.Value.{is_unit}
+use Rattle.text_lines.specs.text_rules.Value.{is_unit}
 use Rattle.text_lines.specs.View.{texts}
 use Rattle.pns_text.proofs.meaning.some_no_unit.Given as goal
 

@@ -1,6 +1,6 @@
 use Rattle.std.proofs.Common.{◌∙◌, [], List, ℕ}
-use Rattle.text_rules.specs.declared.Section.TheVariants.{OperatingUnits}
-use Rattle.text_rules.specs.Line.{Placed, head_of, is_at}
+use Rattle.text_lines.specs.text_rules.declared.Section.TheVariants.{OperatingUnits}
+use Rattle.text_lines.specs.text_rules.Line.{Placed, head_of, is_at}
 use Rattle.text_lines.specs.View.{texts}
 use Rattle.pns_text.proofs.Gathered.{one_more, none_more, text_pushed}
 use Rattle.pns_text.proofs.meaning.unit_heads.Goals as goal

@@ -1,6 +1,6 @@
 use Rattle.std.proofs.Common.{◌≡◌, take}
-use Rattle.text_rules.specs.declared.Section.TheVariants.{OperatingUnits}
-use Rattle.text_rules.specs.Line.{heads_at}
+use Rattle.text_lines.specs.text_rules.declared.Section.TheVariants.{OperatingUnits}
+use Rattle.text_lines.specs.text_rules.Line.{heads_at}
 use Rattle.text_lines.specs.View.{texts}
 use Rattle.pns_text.proofs.meaning.unit_heads.Given as goal
 

@@ -1,5 +1,5 @@
 use Rattle.std.proofs.Common.{◌≡◌, take}
-use Rattle.text_rules.specs.Fault.{names_of}
+use Rattle.text_lines.specs.text_rules.Fault.{names_of}
 use Rattle.text_lines.specs.View.{texts}
 use Rattle.text_lines.specs.Terms.{terms_view}
 use Rattle.pns_text.proofs.rates_line.names_of.Given as goal

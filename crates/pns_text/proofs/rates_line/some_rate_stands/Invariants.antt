@@ -1,6 +1,6 @@
 use Rattle.std.proofs.Common.{◌≡◌, drop}
 use Rattle.std.specs.List.{list_any}
-use Rattle.text_rules.specs.Fault.{rate_stands}
+use Rattle.text_lines.specs.text_rules.Fault.{rate_stands}
 use Rattle.text_lines.specs.Terms.{terms_view}
 use Rattle.pns_text.proofs.rates_line.some_rate_stands.Given as goal
 

@@ -1,7 +1,7 @@
 use Rattle.std.proofs.Common.{◌≡◌, length, Result, Ok, IfOk, IfErr, subst, sym, ap, ◌∙◌, arith}
-use Rattle.problem_rules.specs.Problem.{Problem}
-use Rattle.text_rules.specs.Fault as rules
-use Rattle.text_rules.specs.Value.{names_all}
+use Rattle.text_lines.specs.problem_rules.Problem.{Problem}
+use Rattle.text_lines.specs.text_rules.Fault as rules
+use Rattle.text_lines.specs.text_rules.Value.{names_all}
 use Rattle.text_lines.specs.Tells.{Tells}
 use Rattle.pns_text.specs.View.{walk_view}
 use Rattle.pns_text.proofs.Reading.{read_kept}

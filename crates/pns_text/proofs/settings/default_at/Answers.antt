@@ -1,6 +1,6 @@
 use Rattle.std.proofs.Common.{◌&&◌, sym, ◌∙◌}
 use Rattle.std.specs.Str.{bytes_eq}
-use Rattle.text_rules.specs.Field.{key_of}
+use Rattle.text_lines.specs.text_rules.Field.{key_of}
 use Rattle.pns_text.proofs.Gathered.{not_default}
 use Rattle.pns_text.proofs.settings.default_at.Goals as goal
 use Rattle.pns_text.proofs.settings.default_at.Goals.{else-is_default-via-then-is_default+else-eq}

@@ -1,5 +1,5 @@
 use Rattle.std.proofs.Common.{◌≡◌, drop}
-use Rattle.text_rules.specs.Value.{value_at, default_fields}
+use Rattle.text_lines.specs.text_rules.Value.{value_at, default_fields}
 use Rattle.pns_text.proofs.settings.default_at.Given as goal
 
 abbrev pub invariant-loop-line : goal.invariant-loop-line

@@ -1,5 +1,5 @@
 use Rattle.std.proofs.Common.{◌≡◌, take}
-use Rattle.text_rules.specs.Value.{exclusions_from}
+use Rattle.text_lines.specs.text_rules.Value.{exclusions_from}
 use Rattle.text_lines.specs.View.{texts}
 use Rattle.pns_text.proofs.value.exclusions.Given as goal
 

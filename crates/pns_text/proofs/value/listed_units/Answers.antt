@@ -1,8 +1,9 @@
 use Rattle.std.proofs.Common.{◌∙◌, [], List, ℕ}
-use Rattle.problem_rules.specs.Problem.{OperatingUnit}
-use Rattle.text_rules.specs.declared.Section.TheVariants.{OperatingUnits}
-use Rattle.text_rules.specs.Line.{Placed, is_at}
-use Rattle.text_rules.specs.Value.{Settings, listed_unit, unit_from, item_fields, sides_named}
+use Rattle.text_lines.specs.problem_rules.Problem.{OperatingUnit}
+use Rattle.text_lines.specs.text_rules.declared.Section.TheVariants.{OperatingUnits}
+use Rattle.text_lines.specs.text_rules.Line.{Placed, is_at}
+use Rattle.text_lines.specs.text_rules.Value.{Settings, listed_unit, unit_from, item_fields}
+use Rattle.text_lines.specs.text_rules.Value.{sides_named}
 use Rattle.pns_text.proofs.Gathered.{one_more, none_more}
 use Rattle.pns_text.proofs.value.listed_units.Goals as goal
 use Rattle.pns_text.proofs.value.listed_units.Goals.{in-Some+in_ok-unit+in_ok-push, in_default}

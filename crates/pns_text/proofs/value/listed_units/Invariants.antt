@@ -1,7 +1,7 @@
 use Rattle.std.proofs.Common.{◌≡◌, map, take}
-use Rattle.text_rules.specs.Line.{Placed, lines_at}
-use Rattle.text_rules.specs.declared.Section.TheVariants.{OperatingUnits}
-use Rattle.text_rules.specs.Value.{listed_unit}
+use Rattle.text_lines.specs.text_rules.Line.{Placed, lines_at}
+use Rattle.text_lines.specs.text_rules.declared.Section.TheVariants.{OperatingUnits}
+use Rattle.text_lines.specs.text_rules.Value.{listed_unit}
 use Rattle.pns_text.proofs.value.listed_units.Given as goal
 
 abbrev pub invariant-loop-line : goal.invariant-loop-line

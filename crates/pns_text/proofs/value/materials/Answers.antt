@@ -1,8 +1,8 @@
 use Rattle.std.proofs.Common.{◌∙◌, []}
-use Rattle.problem_rules.specs.Problem.{Material}
-use Rattle.text_rules.specs.declared.Section.TheVariants.{Materials}
-use Rattle.text_rules.specs.Line.{Placed, head_of, is_at}
-use Rattle.text_rules.specs.Value.{Settings, material_from, item_fields, fields_at}
+use Rattle.text_lines.specs.problem_rules.Problem.{Material}
+use Rattle.text_lines.specs.text_rules.declared.Section.TheVariants.{Materials}
+use Rattle.text_lines.specs.text_rules.Line.{Placed, head_of, is_at}
+use Rattle.text_lines.specs.text_rules.Value.{Settings, material_from, item_fields, fields_at}
 use Rattle.pns_text.proofs.Gathered.{one_more, none_more}
 use Rattle.pns_text.proofs.value.materials.Goals as goal
 use Rattle.pns_text.proofs.value.materials.Goals.{in-Some+in_ok-material+in_ok-push, in_default}

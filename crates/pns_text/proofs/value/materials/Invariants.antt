@@ -1,5 +1,5 @@
 use Rattle.std.proofs.Common.{◌≡◌, take}
-use Rattle.text_rules.specs.Value.{materials_from}
+use Rattle.text_lines.specs.text_rules.Value.{materials_from}
 use Rattle.pns_text.proofs.value.materials.Given as goal
 
 abbrev pub invariant-loop-line : goal.invariant-loop-line

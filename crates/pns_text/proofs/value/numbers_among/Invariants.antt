@@ -1,5 +1,5 @@
 use Rattle.std.proofs.Common.{◌≡◌, ◌++◌, drop}
-use Rattle.text_rules.specs.Value.{numbers_among}
+use Rattle.text_lines.specs.text_rules.Value.{numbers_among}
 use Rattle.text_lines.specs.View.{texts}
 use Rattle.pns_text.proofs.value.numbers_among.Given as goal
 

@@ -1,7 +1,7 @@
 use Rattle.std.proofs.Common.{◌≡◌, length, sym, ◌∙◌, arith}
 use Rattle.text_lines.specs.View.{texts}
-use Rattle.text_lines.proofs.Borrowed.{texts-long}
-use Rattle.text_rules.specs.Value.{unit_names_from}
+use Rattle.text_lines.proofs.Cited.{texts-long}
+use Rattle.text_lines.specs.text_rules.Value.{unit_names_from}
 use Rattle.pns_text.proofs.Counts.{units_few}
 use Rattle.pns_text.proofs.value.parts_of.Goals as goal
 

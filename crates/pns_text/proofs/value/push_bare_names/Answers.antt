@@ -1,5 +1,5 @@
 use Rattle.std.proofs.Common.{◌∙◌, List, ℕ}
-use Rattle.text_rules.specs.Line.{Placed, head_of}
+use Rattle.text_lines.specs.text_rules.Line.{Placed, head_of}
 use Rattle.text_lines.specs.View.{texts}
 use Rattle.pns_text.proofs.Gathered.{bare_more, not_bare, text_pushed}
 use Rattle.pns_text.proofs.value.push_bare_names.Goals as goal

@@ -1,7 +1,7 @@
 use Rattle.std.proofs.Common.{◌∙◌, List, [], ℕ}
-use Rattle.problem_rules.specs.Problem.{OperatingUnit}
-use Rattle.text_rules.specs.Line.{Placed, head_of}
-use Rattle.text_rules.specs.Value.{Settings, unit_from, sides_named}
+use Rattle.text_lines.specs.problem_rules.Problem.{OperatingUnit}
+use Rattle.text_lines.specs.text_rules.Line.{Placed, head_of}
+use Rattle.text_lines.specs.text_rules.Value.{Settings, unit_from, sides_named}
 use Rattle.pns_text.proofs.Gathered.{is_bare, bare_more, not_bare}
 use Rattle.pns_text.proofs.value.push_bare_units.Goals as goal
 use Rattle.pns_text.proofs.value.push_bare_units.Goals.{in-Some+in_ok-unit+in_ok-push, in_default}

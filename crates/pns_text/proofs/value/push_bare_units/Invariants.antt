@@ -1,6 +1,6 @@
 use Rattle.std.proofs.Common.{◌≡◌, ◌++◌, map, take}
-use Rattle.text_rules.specs.Line.{Placed}
-use Rattle.text_rules.specs.Value.{bare_unit, bare_lines}
+use Rattle.text_lines.specs.text_rules.Line.{Placed}
+use Rattle.text_lines.specs.text_rules.Value.{bare_unit, bare_lines}
 use Rattle.pns_text.proofs.value.push_bare_units.Given as goal
 
 abbrev pub invariant-loop-line : goal.invariant-loop-line

@@ -1,8 +1,8 @@
 use Rattle.std.proofs.Common.{◌++◌, ℕ, List, map, ap, ◌∙◌}
-use Rattle.problem_rules.specs.Problem.{OperatingUnit}
-use Rattle.text_rules.specs.declared.Section.TheVariants.{OperatingUnits}
-use Rattle.text_rules.specs.Line.{Placed, lines_at}
-use Rattle.text_rules.specs.Value.{Names, listed_unit, bare_unit, bare_lines}
+use Rattle.text_lines.specs.problem_rules.Problem.{OperatingUnit}
+use Rattle.text_lines.specs.text_rules.declared.Section.TheVariants.{OperatingUnits}
+use Rattle.text_lines.specs.text_rules.Line.{Placed, lines_at}
+use Rattle.text_lines.specs.text_rules.Value.{Names, listed_unit, bare_unit, bare_lines}
 use Rattle.pns_text.proofs.value.units.Goals as goal
 use Rattle.pns_text.proofs.value.units.Goals.{In_ok-push_bare_units}
 

@@ -1,4 +1,4 @@
-use Rattle.rank_rules.specs.Text.{ranking_of}
+use Rattle.rank_laws.specs.rank_rules.Text.{ranking_of}
 use Rattle.rank_check.proofs.AnswerLemmas.{accepts, names_network, names_node, on_ok}
 use Rattle.rank_check.proofs.check.check_rank.Goals as goal
 

@@ -1,7 +1,7 @@
 use Rattle.std.proofs.Common.{List, [], ◌∷◌, sym, subst}
-use Rattle.pns_rules.specs.Shape.{shape_of}
-use Rattle.tree_rules.specs.Accepted.{first_node}
-use Rattle.tree_rules.specs.declared.refusal.Refusal.{Refusal}
+use Rattle.rank_laws.specs.pns_rules.Shape.{shape_of}
+use Rattle.rank_laws.specs.tree_rules.Accepted.{first_node}
+use Rattle.rank_laws.specs.tree_rules.declared.refusal.Refusal.{Refusal}
 use Rattle.cert_check.specs.declared.open_leaf.OpenLeaf.{OpenLeaf}
 use Rattle.cert_check.specs.OpenLeaves.{leaves_at, AreBefore}
 use Rattle.rank_check.specs.Refusals.{NamesPlainFault, OpenPass, OpenFails}

@@ -1,17 +1,17 @@
 use Rattle.std.proofs.Common.{◌≡◌, ◌∙◌, [], ◌∷◌, List, ℕ, Option, OnOk, IfOk, IfErr, ap₂, subst}
-use Rattle.number_sets.specs.Sets.{has}
-use Rattle.pns_rules.specs.Shape.{shape_of}
-use Rattle.pns_rules.specs.Nodes.{Node}
-use Rattle.tree_rules.specs.Tree.{Pass}
-use Rattle.tree_rules.specs.Claim.{Network, CostOver}
-use Rattle.tree_rules.specs.Accepted.{Tree, first_node}
-use Rattle.tree_text_rules.specs.OpenLeaves.{open_leaves}
-use Rattle.pgraph.specs.View.{node_of}
+use Rattle.rank_laws.specs.number_sets.Sets.{has}
+use Rattle.rank_laws.specs.pns_rules.Shape.{shape_of}
+use Rattle.rank_laws.specs.pns_rules.Nodes.{Node}
+use Rattle.rank_laws.specs.tree_rules.Tree.{Pass}
+use Rattle.rank_laws.specs.tree_rules.Claim.{Network, CostOver}
+use Rattle.rank_laws.specs.tree_rules.Accepted.{Tree, first_node}
+use Rattle.rank_laws.specs.tree_text_rules.OpenLeaves.{open_leaves}
+use Rattle.cert_check.specs.pgraph.View.{node_of}
 use Rattle.cert_check.specs.Shown.{cost_over}
 use Rattle.cert_check.specs.Bare.{BarePasses, BareFails}
 use Rattle.cert_check.specs.OpenLeaves.{leaves_at, AreBefore}
 use Rattle.cert_check.specs.Refusals.{NamesFault}
-use Rattle.rank_rules.specs.Networks.{to_undercut}
+use Rattle.rank_laws.specs.rank_rules.Networks.{to_undercut}
 use Rattle.rank_check.proofs.check.walk_tree.Goals as goal
 
 pub returns-clause-passes : goal.returns-clause-passes

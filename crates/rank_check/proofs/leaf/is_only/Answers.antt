@@ -1,5 +1,5 @@
 use Rattle.std.proofs.Common.{◌≡◌, length, ap, ◌∙◌, rules}
-use Rattle.pns_rules.specs.Shape.{Shape}
+use Rattle.rank_laws.specs.pns_rules.Shape.{Shape}
 use Rattle.rank_check.proofs.LeafLemmas.{all_decided, not_decided}
 use Rattle.rank_check.proofs.leaf.is_only.Goals as goal
 

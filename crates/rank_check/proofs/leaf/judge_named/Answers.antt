@@ -1,7 +1,7 @@
 use Rattle.std.proofs.Common.{◌∙◌, SFits, rules, to_z, of_z}
 use Rattle.std.specs.Int.{w128}
 use Rattle.std.proofs.lemmas.Int.{to_z-of_z}
-use Rattle.pgraph.specs.View.{node_of}
+use Rattle.cert_check.specs.pgraph.View.{node_of}
 use Rattle.rank_check.specs.View.{name_of}
 use Rattle.rank_check.proofs.LeafLemmas.{other_node, named_passes, named_told}
 use Rattle.rank_check.proofs.leaf.judge_named.Goals as goal

@@ -1,5 +1,5 @@
-use Rattle.rank_rules.specs.Networks.{numbered}
-use Rattle.pgraph.specs.View.{node_of}
+use Rattle.rank_laws.specs.rank_rules.Networks.{numbered}
+use Rattle.cert_check.specs.pgraph.View.{node_of}
 use Rattle.rank_check.specs.View.{name_of}
 use Rattle.rank_check.proofs.LeafLemmas.{no_network}
 use Rattle.rank_check.proofs.leaf.judge_numbered.Goals as goal

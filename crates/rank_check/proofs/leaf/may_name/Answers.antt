@@ -1,5 +1,5 @@
 use Rattle.std.proofs.Common.{◌≡◌, true, false, rules}
-use Rattle.pgraph.specs.View.{node_of}
+use Rattle.cert_check.specs.pgraph.View.{node_of}
 use Rattle.rank_check.proofs.LeafLemmas.{may_only, may_within, may_not}
 use Rattle.rank_check.proofs.leaf.may_name.Goals as goal
 

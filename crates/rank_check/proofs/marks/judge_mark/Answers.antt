@@ -1,11 +1,11 @@
 use Rattle.std.proofs.Common.{Option, IfErr, sym, subst, false}
-use Rattle.tree_rules.specs.declared.why.Why.TheVariants as causes
-use Rattle.tree_rules.specs.Claim.{CostOver}
-use Rattle.pgraph.specs.View.{node_of}
-use Rattle.rank_rules.specs.declared.why.RankWhy.{RankWhy}
-use Rattle.rank_rules.specs.declared.why.RankWhy.TheVariants.{Plain}
-use Rattle.rank_rules.specs.Networks.{numbered}
-use Rattle.rank_rules.specs.Leaf.{LeafFails}
+use Rattle.rank_laws.specs.tree_rules.declared.why.Why.TheVariants as causes
+use Rattle.rank_laws.specs.tree_rules.Claim.{CostOver}
+use Rattle.cert_check.specs.pgraph.View.{node_of}
+use Rattle.rank_laws.specs.rank_rules.declared.why.RankWhy.{RankWhy}
+use Rattle.rank_laws.specs.rank_rules.declared.why.RankWhy.TheVariants.{Plain}
+use Rattle.rank_laws.specs.rank_rules.Networks.{numbered}
+use Rattle.rank_laws.specs.rank_rules.Leaf.{LeafFails}
 use Rattle.rank_check.specs.declared.mark.Mark.{Mark}
 use Rattle.rank_check.specs.declared.mark.Mark.TheVariants.{Named}
 use Rattle.rank_check.specs.View.{mark_of, name_of}

@@ -1,11 +1,11 @@
 use Rattle.std.proofs.Common.{Option, None, OnOk, IfErr, sym, subst, false}
-use Rattle.tree_rules.specs.declared.why.Why.TheVariants as causes
-use Rattle.tree_rules.specs.Claim.{CostOver}
-use Rattle.pgraph.specs.View.{node_of}
-use Rattle.rank_rules.specs.declared.why.RankWhy.{RankWhy}
-use Rattle.rank_rules.specs.declared.why.RankWhy.TheVariants.{Plain}
-use Rattle.rank_rules.specs.Leaf.{LeafPasses, LeafFails}
-use Rattle.rank_rules.specs.Marked.{Mark, marked_leaf}
+use Rattle.rank_laws.specs.tree_rules.declared.why.Why.TheVariants as causes
+use Rattle.rank_laws.specs.tree_rules.Claim.{CostOver}
+use Rattle.cert_check.specs.pgraph.View.{node_of}
+use Rattle.rank_laws.specs.rank_rules.declared.why.RankWhy.{RankWhy}
+use Rattle.rank_laws.specs.rank_rules.declared.why.RankWhy.TheVariants.{Plain}
+use Rattle.rank_laws.specs.rank_rules.Leaf.{LeafPasses, LeafFails}
+use Rattle.rank_laws.specs.rank_rules.Marked.{Mark, marked_leaf}
 use Rattle.rank_check.specs.Marks.{MarkFails}
 use Rattle.rank_check.proofs.TurnLemmas.{mark_here, mark_none, open_fails}
 use Rattle.rank_check.proofs.marks.judge_mark_at.Goals as goal

@@ -1,9 +1,9 @@
 use Rattle.std.proofs.Common.{◌≡◌, ◌∙◌, false, Bool, subst, OnOk, IfErr, SFits, rules, to_z, of_z}
 use Rattle.std.specs.Int.{w128}
 use Rattle.std.proofs.lemmas.Int.{to_z-of_z}
-use Rattle.tree_rules.specs.declared.why.Why.{Why}
-use Rattle.tree_rules.specs.Claim as claims
-use Rattle.cert_check.proofs.LeafLemmas.{weaker_fault}
+use Rattle.rank_laws.specs.tree_rules.declared.why.Why.{Why}
+use Rattle.rank_laws.specs.tree_rules.Claim as claims
+use Rattle.cert_check.proofs.Cited.{weaker_fault}
 use Rattle.rank_check.proofs.networks.judge_alone.Goals as goal
 
 pub returns-clause-passes : goal.returns-clause-passes

@@ -1,5 +1,5 @@
 use Rattle.std.proofs.Common.{[], ℕ, sym, subst}
-use Rattle.rank_rules.specs.Networks.{IsFirstOff}
+use Rattle.rank_laws.specs.rank_rules.Networks.{IsFirstOff}
 use Rattle.rank_check.proofs.NetworkLemmas.{on_next, off_here}
 use Rattle.rank_check.proofs.networks.judge_networks.Goals as goal
 

@@ -1,11 +1,11 @@
 use Rattle.std.proofs.Common.{subst}
-use Rattle.problem_rules.specs.Problem.{Problem}
-use Rattle.studio_rules.specs.Ending.{Tells}
-use Rattle.studio_rules.specs.declared.status.Status.TheVariants.{Memory}
-use Rattle.command_files.proofs.Ending.{Ends-map, Tells-map, Tells-memory, only_in}
-use Rattle.rank_search.specs.DistinctListed.{IsListedTo}
+use Rattle.rank_text.specs.problem_rules.Problem.{Problem}
+use Rattle.searches.specs.studio_rules.Ending.{Tells}
+use Rattle.searches.specs.studio_rules.declared.status.Status.TheVariants.{Memory}
+use Rattle.searches.proofs.command_files.Cited.{Ends-map, Tells-map, Tells-memory, only_in}
+use Rattle.searches.specs.rank_search.DistinctListed.{IsListedTo}
 use Rattle.rank_commands.specs.Found.{FoundSays}
-use Rattle.studio_rules.specs.Alternates.{AlternatesWork}
+use Rattle.searches.specs.studio_rules.Alternates.{AlternatesWork}
 use Rattle.rank_commands.proofs.DistinctLists.{can_print, found_works}
 use Rattle.rank_commands.proofs.alternates.say_listed.Goals as goal
 

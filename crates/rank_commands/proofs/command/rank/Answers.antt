@@ -1,11 +1,10 @@
 use Rattle.std.proofs.Common.{ap, ℕ, List}
-use Rattle.problem_rules.specs.Problem.{Problem}
-use Rattle.studio_rules.specs.Rank.{RankWork}
-use Rattle.studio_rules.specs.Reading.{FileSays}
-use Rattle.studio_rules.specs.Ending.{Tells}
-use Rattle.studio_rules.specs.declared.status.Status.{Status}
-use Rattle.command_files.proofs.Ending.{Ends-map, Ends-from}
-use Rattle.command_files.proofs.Files.{on_file-faults, on_file-work}
+use Rattle.rank_text.specs.problem_rules.Problem.{Problem}
+use Rattle.searches.specs.studio_rules.Rank.{RankWork}
+use Rattle.searches.specs.studio_rules.Reading.{FileSays}
+use Rattle.searches.specs.studio_rules.Ending.{Tells}
+use Rattle.searches.specs.studio_rules.declared.status.Status.{Status}
+use Rattle.searches.proofs.command_files.Cited.{Ends-map, Ends-from, on_file-faults, on_file-work}
 use Rattle.rank_commands.proofs.command.rank.Goals as goal
 
 pub returns-in-Ok-clause-ends : goal.returns-in-Ok-clause-ends

@@ -1,11 +1,11 @@
 use Rattle.std.proofs.Common.{subst}
-use Rattle.problem_rules.specs.Problem.{Problem}
-use Rattle.studio_rules.specs.Ending.{Tells}
-use Rattle.studio_rules.specs.declared.status.Status.TheVariants.{Memory}
-use Rattle.command_files.proofs.Ending.{Ends-map, Tells-map, Tells-memory, only_in}
-use Rattle.rank_search.specs.Ranked.{IsRankedTo}
+use Rattle.rank_text.specs.problem_rules.Problem.{Problem}
+use Rattle.searches.specs.studio_rules.Ending.{Tells}
+use Rattle.searches.specs.studio_rules.declared.status.Status.TheVariants.{Memory}
+use Rattle.searches.proofs.command_files.Cited.{Ends-map, Tells-map, Tells-memory, only_in}
+use Rattle.searches.specs.rank_search.Ranked.{IsRankedTo}
 use Rattle.rank_commands.specs.Found.{FoundSays}
-use Rattle.studio_rules.specs.Rank.{RankWork}
+use Rattle.searches.specs.studio_rules.Rank.{RankWork}
 use Rattle.rank_commands.proofs.Rankings.{can_print, found_works}
 use Rattle.rank_commands.proofs.command.say_ranked.Goals as goal
 

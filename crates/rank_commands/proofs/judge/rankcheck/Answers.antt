@@ -1,12 +1,11 @@
 use Rattle.std.proofs.Common.{◌≡◌, ap, ℕ, List}
-use Rattle.studio_rules.specs.Reading.{TwoFilesSay}
-use Rattle.studio_rules.specs.Rankcheck.{OnRank, RankcheckSays}
-use Rattle.studio_rules.specs.Ending.{Says}
-use Rattle.studio_rules.specs.declared.status.Status.{Status}
-use Rattle.command_files.proofs.Ending.{Ends-map, Ends-from}
-use Rattle.command_files.proofs.Seconds.{on_both-faults, on_both-work}
+use Rattle.searches.specs.studio_rules.Reading.{TwoFilesSay}
+use Rattle.searches.specs.studio_rules.Rankcheck.{OnRank, RankcheckSays}
+use Rattle.searches.specs.studio_rules.Ending.{Says}
+use Rattle.searches.specs.studio_rules.declared.status.Status.{Status}
+use Rattle.searches.proofs.command_files.Cited.{Ends-map, Ends-from, on_both-faults, on_both-work}
+use Rattle.searches.proofs.command_files.Cited.{keeps_through}
 use Rattle.rank_commands.proofs.Best.{done_ends}
-use Rattle.command_files.proofs.Keeping.{keeps_through}
 use Rattle.rank_commands.proofs.judge.rankcheck.Goals as goal
 
 pub returns-in-Ok : goal.returns-in-Ok

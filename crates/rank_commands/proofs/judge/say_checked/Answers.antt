@@ -1,7 +1,7 @@
 use Rattle.std.proofs.Common.{subst, ℕ, List}
-use Rattle.problem_rules.specs.Problem.{Problem}
-use Rattle.studio_rules.specs.Rankcheck.{RankcheckWork}
-use Rattle.studio_rules.specs.Ending.{Ends, Tells}
+use Rattle.rank_text.specs.problem_rules.Problem.{Problem}
+use Rattle.searches.specs.studio_rules.Rankcheck.{RankcheckWork}
+use Rattle.searches.specs.studio_rules.Ending.{Ends, Tells}
 use Rattle.rank_commands.proofs.judge.say_checked.Goals as goal
 
 pub returns : goal.returns

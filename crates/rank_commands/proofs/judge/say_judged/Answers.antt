@@ -1,14 +1,14 @@
 use Rattle.std.proofs.Common.{◌∷◌, [], false, refl, inl, inr, ℕ, List, codes}
-use Rattle.rank_rules.specs.Networks.{ArePassing}
-use Rattle.rank_rules.specs.Ranked.{NetworkIsFault, NodeIsFault}
-use Rattle.rank_rules.specs.Text.{ranking_of}
-use Rattle.studio_rules.specs.RankWords.{network_line, rank_node_line}
-use Rattle.studio_rules.specs.Lines.{line}
-use Rattle.studio_rules.specs.Rankcheck.{RankcheckWork}
-use Rattle.studio_rules.specs.Ending.{Tells}
-use Rattle.studio_rules.specs.declared.status.Status.{Status}
-use Rattle.studio_rules.specs.declared.status.Status.TheVariants.{Done, Refused, Memory}
-use Rattle.command_files.proofs.Ending.{Ends-map, only_in, only_or_memory_in, one_line}
+use Rattle.rank_text.specs.rank_rules.Networks.{ArePassing}
+use Rattle.rank_text.specs.rank_rules.Ranked.{NetworkIsFault, NodeIsFault}
+use Rattle.rank_text.specs.rank_rules.Text.{ranking_of}
+use Rattle.searches.specs.studio_rules.RankWords.{network_line, rank_node_line}
+use Rattle.searches.specs.studio_rules.Lines.{line}
+use Rattle.searches.specs.studio_rules.Rankcheck.{RankcheckWork}
+use Rattle.searches.specs.studio_rules.Ending.{Tells}
+use Rattle.searches.specs.studio_rules.declared.status.Status.{Status}
+use Rattle.searches.specs.studio_rules.declared.status.Status.TheVariants.{Done, Refused, Memory}
+use Rattle.searches.proofs.command_files.Cited.{Ends-map, only_in, only_or_memory_in, one_line}
 use Rattle.rank_commands.proofs.judge.say_judged.Goals as goal
 
 pub returns-in-Err-Network : goal.returns-in-Err-Network

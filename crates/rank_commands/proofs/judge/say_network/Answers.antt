@@ -1,10 +1,10 @@
 use Rattle.std.proofs.Common.{◌≡◌, ◌∙◌, inl, ℕ, List}
-use Rattle.studio_rules.specs.RankWords.{network_line}
-use Rattle.studio_rules.specs.Lines.{line}
-use Rattle.studio_rules.specs.Ending.{Only, OrMemory}
-use Rattle.studio_rules.specs.declared.status.Status.{Status}
-use Rattle.studio_rules.specs.declared.status.Status.TheVariants.{Refused}
-use Rattle.command_files.proofs.Ending.{Ends-map}
+use Rattle.searches.specs.studio_rules.RankWords.{network_line}
+use Rattle.searches.specs.studio_rules.Lines.{line}
+use Rattle.searches.specs.studio_rules.Ending.{Only, OrMemory}
+use Rattle.searches.specs.studio_rules.declared.status.Status.{Status}
+use Rattle.searches.specs.studio_rules.declared.status.Status.TheVariants.{Refused}
+use Rattle.searches.proofs.command_files.Cited.{Ends-map}
 use Rattle.rank_commands.proofs.judge.say_network.Goals as goal
 
 pub returns-in-Ok : goal.returns-in-Ok

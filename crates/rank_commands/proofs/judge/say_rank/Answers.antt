@@ -1,9 +1,8 @@
 use Rattle.std.proofs.Common.{◌≡◌, ap, inl, inr, ℕ, List}
-use Rattle.studio_rules.specs.Rankcheck.{OnRank, RankFault, RankcheckSays, RankcheckWork}
-use Rattle.studio_rules.specs.Ending.{Says}
-use Rattle.studio_rules.specs.declared.status.Status.{Status}
-use Rattle.command_files.proofs.Ending.{Ends-map, Ends-from, Says-told}
-use Rattle.command_files.proofs.Seconds.{on_second-faults}
+use Rattle.searches.specs.studio_rules.Rankcheck.{OnRank, RankFault, RankcheckSays, RankcheckWork}
+use Rattle.searches.specs.studio_rules.Ending.{Says}
+use Rattle.searches.specs.studio_rules.declared.status.Status.{Status}
+use Rattle.searches.proofs.command_files.Cited.{Ends-map, Ends-from, Says-told, on_second-faults}
 use Rattle.rank_commands.proofs.judge.say_rank.Goals as goal
 
 pub returns-in-Ok-clause-ends : goal.returns-in-Ok-clause-ends

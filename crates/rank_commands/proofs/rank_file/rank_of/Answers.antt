@@ -1,13 +1,14 @@
 use Rattle.std.proofs.Common.{◌≡◌, ◌∷◌, [], Ok, Err, refl, sym, ◌∙◌, inl, List, ℕ, codes, ap}
-use Rattle.rank_rules.specs.Read.{read_text}
-use Rattle.studio_rules.specs.Lines.{line}
-use Rattle.studio_rules.specs.TreeFile.{tree_fault_line}
-use Rattle.studio_rules.specs.Rankcheck.{RankFault, RankFaults}
-use Rattle.studio_rules.specs.Ending.{Says}
-use Rattle.studio_rules.specs.declared.status.Status.{Status}
-use Rattle.studio_rules.specs.declared.status.Status.TheVariants.{BadTree, Memory}
-use Rattle.command_files.proofs.Ending.{Ends-map, Ends-from, only_in, only_or_memory_in, one_line}
-use Rattle.command_files.proofs.Seconds.{long-faults}
+use Rattle.rank_text.specs.rank_rules.Read.{read_text}
+use Rattle.searches.specs.studio_rules.Lines.{line}
+use Rattle.searches.specs.studio_rules.TreeFile.{tree_fault_line}
+use Rattle.searches.specs.studio_rules.Rankcheck.{RankFault, RankFaults}
+use Rattle.searches.specs.studio_rules.Ending.{Says}
+use Rattle.searches.specs.studio_rules.declared.status.Status.{Status}
+use Rattle.searches.specs.studio_rules.declared.status.Status.TheVariants.{BadTree, Memory}
+use Rattle.searches.proofs.command_files.Cited.{Ends-map, Ends-from, only_in, only_or_memory_in}
+use Rattle.searches.proofs.command_files.Cited.{one_line}
+use Rattle.searches.proofs.command_files.Cited.{long-faults}
 use Rattle.rank_commands.proofs.rank_file.rank_of.Goals as goal
 
 pub returns-in-Err-clause-told : goal.returns-in-Err-clause-told

@@ -1,9 +1,9 @@
 use Rattle.std.proofs.Common.{List, map, sym, subst}
-use Rattle.problem_rules.specs.Each.{Each}
-use Rattle.rank_check.specs.declared.mark.Mark.{Mark}
-use Rattle.rank_check.specs.View.{mark_of}
+use Rattle.rank_text.specs.problem_rules.Each.{Each}
+use Rattle.rank_text.specs.rank_check.declared.mark.Mark.{Mark}
+use Rattle.rank_text.specs.rank_check.View.{mark_of}
 use Rattle.rank_commands.specs.Normal.{IsMarkInRange}
-use Rattle.tree_text.proofs.Printed.{item_ahead}
+use Rattle.rank_text.proofs.tree_text.Cited.{item_ahead}
 use Rattle.rank_commands.proofs.ranking.marks_are_in_range.Goals as goal
 
 pub marks-preserved : goal.marks-preserved

@@ -1,6 +1,6 @@
 use Rattle.std.proofs.Common.{drop, map}
-use Rattle.problem_rules.specs.Each.{Each}
-use Rattle.rank_check.specs.View.{mark_of}
+use Rattle.rank_text.specs.problem_rules.Each.{Each}
+use Rattle.rank_text.specs.rank_check.View.{mark_of}
 use Rattle.rank_commands.specs.Normal.{IsMarkInRange}
 use Rattle.rank_commands.proofs.ranking.marks_are_in_range.Given as goal
 

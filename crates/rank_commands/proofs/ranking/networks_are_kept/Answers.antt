@@ -1,8 +1,8 @@
 use Rattle.std.proofs.Common.{List, sym, subst}
-use Rattle.problem_rules.specs.Each.{Each}
-use Rattle.tree_rules.specs.Claim.{Network}
-use Rattle.branch_tree.specs.Sized.{IsKept}
-use Rattle.tree_text.proofs.Printed.{item_ahead}
+use Rattle.rank_text.specs.problem_rules.Each.{Each}
+use Rattle.rank_text.specs.tree_rules.Claim.{Network}
+use Rattle.rank_text.specs.branch_tree.Sized.{IsKept}
+use Rattle.rank_text.proofs.tree_text.Cited.{item_ahead}
 use Rattle.rank_commands.proofs.ranking.networks_are_kept.Goals as goal
 
 pub networks-preserved : goal.networks-preserved

@@ -1,6 +1,6 @@
 use Rattle.std.proofs.Common.{drop}
-use Rattle.problem_rules.specs.Each.{Each}
-use Rattle.branch_tree.specs.Sized.{IsKept}
+use Rattle.rank_text.specs.problem_rules.Each.{Each}
+use Rattle.rank_text.specs.branch_tree.Sized.{IsKept}
 use Rattle.rank_commands.proofs.ranking.networks_are_kept.Given as goal
 
 -- the networks before the index are kept, so all are if those that follow are

@@ -1,12 +1,12 @@
 use Rattle.std.proofs.Common.{List, ℕ, map, subst}
-use Rattle.problem_rules.specs.Each.{Each}
-use Rattle.tree_rules.specs.Tree.{IsTree}
-use Rattle.tree_rules.specs.Claim.{Network}
-use Rattle.tree_rules.specs.Accepted.{Tree}
-use Rattle.branch_tree.specs.Sized.{IsKept}
-use Rattle.tree_rules.specs.Tail.{Tail}
-use Rattle.tree_text_laws.specs.Fits.{CountsTail}
-use Rattle.rank_rules.specs.Marked.{Mark}
+use Rattle.rank_text.specs.problem_rules.Each.{Each}
+use Rattle.rank_text.specs.tree_rules.Tree.{IsTree}
+use Rattle.rank_text.specs.tree_rules.Claim.{Network}
+use Rattle.rank_text.specs.tree_rules.Accepted.{Tree}
+use Rattle.rank_text.specs.branch_tree.Sized.{IsKept}
+use Rattle.rank_text.specs.tree_rules.Tail.{Tail}
+use Rattle.rank_text.specs.tree_text_laws.Fits.{CountsTail}
+use Rattle.rank_text.specs.rank_rules.Marked.{Mark}
 use Rattle.rank_commands.specs.Normal.{normal, IsMarkInRange}
 use Rattle.rank_commands.proofs.Rankings.{fits}
 use Rattle.rank_commands.proofs.ranking.reads_back.Goals as goal

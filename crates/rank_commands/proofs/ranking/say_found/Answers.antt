@@ -1,8 +1,8 @@
 use Rattle.std.proofs.Common.{◌∙◌, sym}
-use Rattle.rank_rules.specs.Text.{Text}
-use Rattle.studio_rules.specs.Ending.{Tells}
-use Rattle.studio_rules.specs.declared.status.Status.TheVariants.{Memory}
-use Rattle.command_files.proofs.Ending.{Ends-map, Tells-map, Tells-memory, only_in}
+use Rattle.rank_text.specs.rank_rules.Text.{Text}
+use Rattle.searches.specs.studio_rules.Ending.{Tells}
+use Rattle.searches.specs.studio_rules.declared.status.Status.TheVariants.{Memory}
+use Rattle.searches.proofs.command_files.Cited.{Ends-map, Tells-map, Tells-memory, only_in}
 use Rattle.rank_commands.specs.Found.{RankingSays, FoundSays}
 use Rattle.rank_commands.proofs.ranking.say_found.Goals as goal
 

@@ -1,9 +1,9 @@
 use Rattle.std.proofs.Common.{◌≡◌, ◌∙◌, ap, refl}
-use Rattle.studio_rules.specs.Solve.{status_of}
-use Rattle.searches.proofs.FoundTexts.{is_printing}
-use Rattle.rank_rules.specs.Spelling.{rank_text_lines}
-use Rattle.studio_rules.specs.Printed.{OneAnswer}
-use Rattle.command_files.proofs.Ending.{Tells-map, Ends-from}
+use Rattle.searches.specs.studio_rules.Solve.{status_of}
+use Rattle.searches.proofs.Cited.{is_printing}
+use Rattle.rank_text.specs.rank_rules.Spelling.{rank_text_lines}
+use Rattle.searches.specs.studio_rules.Printed.{OneAnswer}
+use Rattle.searches.proofs.command_files.Cited.{Tells-map, Ends-from}
 use Rattle.rank_commands.specs.Found.{RankingSays}
 use Rattle.rank_commands.proofs.Rankings.{says}
 use Rattle.rank_commands.proofs.ranking.say_ranking.Goals as goal

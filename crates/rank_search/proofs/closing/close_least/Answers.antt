@@ -1,12 +1,11 @@
 use Rattle.std.specs.Prelude.{IfSome}
 use Rattle.std.proofs.Common.{Option, Some, sym, ◌∙◌, subst, refl, arith}
-use Rattle.tree_rules.specs.Tree.{leaf}
-use Rattle.tree_rules.specs.Leaf.{bounded}
+use Rattle.rank_check.specs.tree_rules.Tree.{leaf}
+use Rattle.rank_check.specs.tree_rules.Leaf.{bounded}
 use Rattle.abb_search.specs.Shutting.{IsShutAt}
 use Rattle.rank_search.specs.declared.closing.Closed.{Closed}
 use Rattle.rank_search.specs.DistinctTurns.{IsClosed}
-use Rattle.abb_search.proofs.ReadyLemmas.{first_has}
-use Rattle.abb_search.proofs.TurnLemmas.{there}
+use Rattle.abb_search.proofs.Cited.{first_has, there}
 use Rattle.rank_search.proofs.DistinctTurnLemmas.{growing_of, closed_on}
 use Rattle.rank_search.proofs.closing.close_least.Goals as goal
 

@@ -1,12 +1,11 @@
 use Rattle.std.proofs.Common.{◌≡◌, Option, Some, None, refl, ap, ◌∙◌, subst, rules}
-use Rattle.node_evaluation.specs.Evaluated.{cost_in}
+use Rattle.abb_search.specs.node_evaluation.Evaluated.{cost_in}
 use Rattle.abb_search.specs.declared.closing.Shutting.{Shutting}
 use Rattle.abb_search.specs.declared.closing.Shutting.TheVariants as shuttings
-use Rattle.search_tree.specs.declared.shut.Shut.{Shut}
-use Rattle.search_tree.specs.declared.shut.Shut.TheVariants as shuts
+use Rattle.abb_search.specs.search_tree.declared.shut.Shut.{Shut}
+use Rattle.abb_search.specs.search_tree.declared.shut.Shut.TheVariants as shuts
 use Rattle.abb_search.specs.Closing.{IsShutBy}
-use Rattle.abb_search.proofs.ReadyLemmas.{first_has}
-use Rattle.abb_search.proofs.TurnLemmas.{there, first_is_least, beaten_by}
+use Rattle.abb_search.proofs.Cited.{first_has, there, first_is_least, beaten_by}
 use Rattle.rank_search.proofs.ClosingLemmas.{is_closed}
 use Rattle.rank_search.proofs.closing.closed_inside.Goals as goal
 

@@ -1,9 +1,8 @@
 use Rattle.std.proofs.Common.{◌≡◌, Some, None, sym, ◌∙◌, rules}
-use Rattle.link_lists.specs.Lists.{first}
-use Rattle.tree_rules.specs.Costs.{IsNoMore}
-use Rattle.node_evaluation.specs.Evaluated.{cost_in, cost_over}
-use Rattle.abb_search.proofs.ReadyLemmas.{first_has}
-use Rattle.abb_search.proofs.TurnLemmas.{first_is_least, beaten_by}
+use Rattle.abb_search.specs.link_lists.Lists.{first}
+use Rattle.rank_check.specs.tree_rules.Costs.{IsNoMore}
+use Rattle.abb_search.specs.node_evaluation.Evaluated.{cost_in, cost_over}
+use Rattle.abb_search.proofs.Cited.{first_has, first_is_least, beaten_by}
 use Rattle.rank_search.proofs.closing.shut_by_last.Goals as goal
 
 pub value-value-requires : goal.value-value-requires

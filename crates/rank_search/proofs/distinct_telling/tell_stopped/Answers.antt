@@ -1,6 +1,6 @@
 use Rattle.std.proofs.Common.{true, None, List, map, sym, subst}
-use Rattle.tree_rules.specs.Claim.{Network}
-use Rattle.rank_rules.specs.declared.naming.Naming.TheVariants.{Within}
+use Rattle.rank_check.specs.tree_rules.Claim.{Network}
+use Rattle.rank_check.specs.rank_rules.declared.naming.Naming.TheVariants.{Within}
 use Rattle.rank_check.specs.View.{mark_of}
 use Rattle.rank_search.specs.Told.{IsTellingOf}
 use Rattle.rank_search.proofs.TellingLemmas.{stands_open, spent_telling}

@@ -1,5 +1,5 @@
 use Rattle.std.proofs.Common.{false, true, None, List, map, sym, subst}
-use Rattle.tree_rules.specs.Claim.{Network}
+use Rattle.rank_check.specs.tree_rules.Claim.{Network}
 use Rattle.rank_check.specs.View.{mark_of}
 use Rattle.rank_search.specs.Told.{IsTellingOf}
 use Rattle.rank_search.proofs.NamedLeafLemmas.{all_close}

@@ -1,9 +1,9 @@
 use Rattle.std.specs.Prelude.{slice_index_or}
 use Rattle.std.proofs.Common.{List, Option, None, sym, subst, map}
-use Rattle.search_tree.specs.declared.shut.Shut.{Shut}
+use Rattle.abb_search.specs.search_tree.declared.shut.Shut.{Shut}
 use Rattle.abb_search.specs.Closing.{ShutAll, EndSome, LeavesOpen, IsSpentFor}
 use Rattle.abb_search.specs.declared.rounds.Ending.{Ending}
-use Rattle.rank_rules.specs.Text.{Text}
+use Rattle.rank_check.specs.rank_rules.Text.{Text}
 use Rattle.rank_check.specs.View.{mark_of}
 use Rattle.rank_search.specs.declared.outcome.Ranked.TheVariants as ranks
 use Rattle.rank_search.specs.DistinctListed.{IsListedBy}

@@ -1,14 +1,14 @@
 use Rattle.std.proofs.Common.{◌+◌, ◌≤◌, length, refl, sym, subst, arith}
-use Rattle.pns_rules.specs.Shape.{shape_of}
-use Rattle.pns_rules.specs.Ends.{IsSound, IsReduced}
-use Rattle.pgraph.specs.View.{node_of}
-use Rattle.unit_sets.specs.declared.node.Node.{Node}
-use Rattle.node_evaluation.specs.declared.choice.Choice.{Choice}
-use Rattle.node_evaluation.specs.Choices.{IsChoice, way_of, option_count}
-use Rattle.search_tree.specs.Cells.{cell_at}
-use Rattle.node_evaluation.proofs.ChoiceLemmas.{option_count_is}
+use Rattle.rank_check.specs.pns_rules.Shape.{shape_of}
+use Rattle.rank_check.specs.pns_rules.Ends.{IsSound, IsReduced}
+use Rattle.rank_check.specs.pgraph.View.{node_of}
+use Rattle.rank_check.specs.unit_sets.declared.node.Node.{Node}
+use Rattle.abb_search.specs.node_evaluation.declared.choice.Choice.{Choice}
+use Rattle.abb_search.specs.node_evaluation.Choices.{IsChoice, way_of, option_count}
+use Rattle.abb_search.specs.search_tree.Cells.{cell_at}
+use Rattle.abb_search.proofs.node_evaluation.Cited.{option_count_is}
 use Rattle.abb_search.specs.Growing.{IsBranching}
-use Rattle.abb_search.proofs.TurnLemmas.{there, hand, chosen, sound_there}
+use Rattle.abb_search.proofs.Cited.{there, hand, chosen, sound_there}
 use Rattle.rank_search.proofs.GrowLemmas.{numbers_fit}
 use Rattle.rank_search.proofs.DistinctTurnLemmas.{growing_of, branched_on, with_both}
 use Rattle.rank_search.proofs.distinct_turns.branch_next.Goals as goal

@@ -1,6 +1,6 @@
 use Rattle.std.proofs.Common.{◌∙◌, ℕ, List, Option, Some, None, sym, subst}
-use Rattle.pns_rules.specs.Shape.{shape_of}
-use Rattle.neutral_extension.specs.Candidates.{AreMakersOf}
+use Rattle.rank_check.specs.pns_rules.Shape.{shape_of}
+use Rattle.abb_search.specs.neutral_extension.Candidates.{AreMakersOf}
 use Rattle.abb_search.specs.declared.rounds.Ending.{Ending}
 use Rattle.rank_search.specs.DistinctTurns.{IsSearching, IsListEnd, TurnHolds, left_over}
 use Rattle.rank_search.proofs.distinct_turns.run.Goals as goal

@@ -1,9 +1,9 @@
 use Rattle.std.proofs.Common.{◌≡◌, sym, ap, ◌∙◌, subst, Option, Some, None}
 use Rattle.abb_search.specs.declared.growing.StoppedLeaf.{StoppedLeaf}
 use Rattle.abb_search.specs.declared.rounds.Next.{Next}
-use Rattle.node_evaluation.specs.declared.evaluator.Interval.{Interval}
+use Rattle.abb_search.specs.node_evaluation.declared.evaluator.Interval.{Interval}
 use Rattle.abb_search.specs.Growing.{IsStoppedAt, interval_stop}
-use Rattle.abb_search.proofs.TurnLemmas.{there, hand, stops_there}
+use Rattle.abb_search.proofs.Cited.{there, hand, stops_there}
 use Rattle.abb_search.specs.declared.rounds.Next.TheVariants as nexts
 use Rattle.abb_search.specs.Rounds.{IsStopLeaf, IsNext}
 use Rattle.rank_search.proofs.DistinctTurnLemmas.{growing_of, kept_of, ends, ends_there, ends_as}

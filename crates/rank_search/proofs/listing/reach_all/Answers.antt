@@ -1,6 +1,6 @@
 use Rattle.std.specs.List.{slice_get}
 use Rattle.std.proofs.Common.{◌≡◌, List, Option, Some, take, subst, arith}
-use Rattle.tree_rules.specs.Claim.{Network}
+use Rattle.rank_check.specs.tree_rules.Claim.{Network}
 use Rattle.rank_search.proofs.NameLemmas.{item_there}
 use Rattle.rank_search.proofs.PlaceLemmas.{take_whole}
 use Rattle.rank_search.specs.Listing.{IsWithValues}

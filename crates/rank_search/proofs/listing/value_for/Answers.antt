@@ -1,5 +1,5 @@
 use Rattle.std.proofs.Common.{Some, Option, refl, sym, subst}
-use Rattle.tree_rules.specs.Claim.{Network}
+use Rattle.rank_check.specs.tree_rules.Claim.{Network}
 use Rattle.rank_search.specs.Listing.{IsValueFor}
 use Rattle.rank_search.proofs.listing.value_for.Goals as goal
 

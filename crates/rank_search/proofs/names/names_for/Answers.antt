@@ -2,9 +2,9 @@ use Rattle.std.specs.List.{slice_get}
 use Rattle.std.proofs.Common.{◌≡◌, ◌∷◌, [], refl, Option, Some, None, length}
 use Rattle.std.proofs.Common.{subst, sym, ap, arith}
 use Rattle.std.proofs.Common.{ℕ, length-append}
-use Rattle.exact_numbers.specs.declared.number.Mixed.{Mixed}
-use Rattle.search_tree.specs.Cells.{cell_at}
-use Rattle.unit_sets.specs.declared.node.Node.{Node}
+use Rattle.rank_check.specs.exact_numbers.declared.number.Mixed.{Mixed}
+use Rattle.abb_search.specs.search_tree.Cells.{cell_at}
+use Rattle.rank_check.specs.unit_sets.declared.node.Node.{Node}
 use Rattle.rank_search.specs.Naming.{Names, name_at}
 use Rattle.rank_search.proofs.NameLemmas.{item_there}
 use Rattle.rank_search.specs.Listing.{reached_of}

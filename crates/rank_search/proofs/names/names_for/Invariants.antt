@@ -1,5 +1,5 @@
 use Rattle.std.proofs.Common.{◌≡◌, ◌<◌, ℕ, length}
-use Rattle.search_tree.specs.Cells.{cell_at}
+use Rattle.abb_search.specs.search_tree.Cells.{cell_at}
 use Rattle.rank_search.specs.Naming.{name_at}
 use Rattle.rank_search.specs.Listing.{reached_of}
 use Rattle.rank_search.specs.Names.{IsNameFor}

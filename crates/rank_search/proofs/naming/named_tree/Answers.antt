@@ -1,10 +1,10 @@
 use Rattle.std.proofs.Common.{◌≡◌, ℕ, List, length, take, drop, ◌++◌, sym, ap, ap₂, ◌∙◌, subst}
 use Rattle.std.proofs.Common.{arith}
-use Rattle.tree_rules.specs.Tree.{IsTree}
-use Rattle.tree_rules.specs.Accepted.{Tree}
-use Rattle.search_tree.specs.Cells.{Cell}
-use Rattle.search_tree.specs.Shut.{shut_cells}
-use Rattle.search_tree.proofs.ShutLemmas.{shut_at, shut_linked}
+use Rattle.rank_check.specs.tree_rules.Tree.{IsTree}
+use Rattle.rank_check.specs.tree_rules.Accepted.{Tree}
+use Rattle.abb_search.specs.search_tree.Cells.{Cell}
+use Rattle.abb_search.specs.search_tree.Shut.{shut_cells}
+use Rattle.abb_search.proofs.search_tree.Cited.{shut_at, shut_linked}
 use Rattle.rank_search.specs.Naming.{Names, names_at, opened}
 use Rattle.rank_search.proofs.MarkLemmas.{opened_is_tree, length-opened, written_over}
 use Rattle.rank_search.proofs.naming.named_tree.Goals as goal

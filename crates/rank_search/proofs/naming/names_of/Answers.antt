@@ -4,7 +4,7 @@ use Rattle.std.proofs.Common.{arith, inl, inr}
 use Rattle.std.proofs.lemmas.Bool.{cases_eq}
 use Rattle.std.proofs.lemmas.List.{length-set}
 use Rattle.std.proofs.lemmas.Option.{slice_get_within}
-use Rattle.tree_rules.specs.Claim.{IsSized}
+use Rattle.rank_check.specs.tree_rules.Claim.{IsSized}
 use Rattle.rank_search.specs.Found.{FoundAt}
 use Rattle.rank_search.specs.Naming.{Names, names_with, names_of}
 use Rattle.rank_search.proofs.NameLemmas.{no-length, names_next, within_next, each_sized}

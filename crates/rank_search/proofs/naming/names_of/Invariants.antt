@@ -1,6 +1,6 @@
 use Rattle.std.specs.List.{slice_get}
 use Rattle.std.proofs.Common.{◌≡◌, ◌<◌, ◌+◌, ℕ, drop, length, Some}
-use Rattle.tree_rules.specs.Claim.{IsSized}
+use Rattle.rank_check.specs.tree_rules.Claim.{IsSized}
 use Rattle.rank_search.specs.Found.{FoundAt}
 use Rattle.rank_search.specs.Naming.{AreWithin, names_with, names_of}
 use Rattle.rank_search.proofs.naming.names_of.Given as goal

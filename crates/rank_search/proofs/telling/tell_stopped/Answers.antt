@@ -1,8 +1,8 @@
 use Rattle.std.proofs.Common.{ℕ, length, true, List, map, sym, subst}
-use Rattle.tree_rules.specs.Claim.{Network}
+use Rattle.rank_check.specs.tree_rules.Claim.{Network}
 use Rattle.rank_check.specs.View.{mark_of}
 use Rattle.rank_search.specs.Found.{undercut_by}
-use Rattle.rank_rules.specs.declared.naming.Naming.TheVariants.{Only}
+use Rattle.rank_check.specs.rank_rules.declared.naming.Naming.TheVariants.{Only}
 use Rattle.rank_search.specs.Naming.{AreWithin, names_of}
 use Rattle.rank_search.specs.Told.{IsTelling, IsSpentTelling}
 use Rattle.rank_search.proofs.NamedLeafLemmas.{some_close}

@@ -1,5 +1,5 @@
 use Rattle.std.proofs.Common.{ℕ, length, false, List, map, sym, subst}
-use Rattle.tree_rules.specs.Claim.{Network}
+use Rattle.rank_check.specs.tree_rules.Claim.{Network}
 use Rattle.rank_check.specs.View.{mark_of}
 use Rattle.rank_search.specs.Found.{undercut_by}
 use Rattle.rank_search.specs.Naming.{AreWithin}

@@ -1,6 +1,6 @@
 use Rattle.std.proofs.Common.{◌∙◌, ℕ, List, length, Option, Some, None, sym, subst, arith}
-use Rattle.pns_rules.specs.Shape.{shape_of}
-use Rattle.neutral_extension.specs.Candidates.{AreMakersOf}
+use Rattle.rank_check.specs.pns_rules.Shape.{shape_of}
+use Rattle.abb_search.specs.neutral_extension.Candidates.{AreMakersOf}
 use Rattle.abb_search.specs.declared.rounds.Ending.{Ending}
 use Rattle.rank_search.specs.Turns.{IsRanking, IsRankEnd, TurnHolds}
 use Rattle.rank_search.proofs.TurnLemmas.{kept_of}

@@ -1,10 +1,10 @@
 use Rattle.std.proofs.Common.{◌≡◌, [], refl, sym, subst, arith}
-use Rattle.number_sets.specs.Sets.{has}
-use Rattle.pns_rules.specs.Shape.{shape_of}
-use Rattle.pns_rules.specs.Nodes.{Node}
-use Rattle.pns_rules.specs.Ends.{IsSound}
-use Rattle.pgraph.specs.View.{node_of}
-use Rattle.tree_rules.specs.Accepted.{first_node}
+use Rattle.rank_check.specs.number_sets.Sets.{has}
+use Rattle.rank_check.specs.pns_rules.Shape.{shape_of}
+use Rattle.rank_check.specs.pns_rules.Nodes.{Node}
+use Rattle.rank_check.specs.pns_rules.Ends.{IsSound}
+use Rattle.rank_check.specs.pgraph.View.{node_of}
+use Rattle.rank_check.specs.tree_rules.Accepted.{first_node}
 use Rattle.rank_search.specs.Listed.{Listed, IsListed}
 use Rattle.rank_search.proofs.RootLemmas.{first_is_sound, one_network, added_one, begun, same_count}
 use Rattle.rank_search.proofs.whole.begin.Goals as goal

@@ -1,11 +1,11 @@
 use Rattle.std.proofs.Common.{◌∷◌, [], List, length, ap, arith}
 use Rattle.std.proofs.lemmas.List.{length-append}
 use Rattle.std.proofs.lemmas.Result.{err_from_is_err_and}
-use Rattle.tree_rules.specs.Claim.{Network}
+use Rattle.tree_text_laws.specs.tree_rules.Claim.{Network}
 use Rattle.tree_reading.specs.Place.{lines_at}
 use Rattle.tree_reading.specs.Taken.{taken}
 use Rattle.rank_check.specs.Known.{KnowsNetwork}
-use Rattle.tree_reading.proofs.NodeByNode.{each_last}
+use Rattle.tree_reading.proofs.Cited.{each_last}
 use Rattle.rank_text.proofs.Together.{network_on, network_bad, networks_whole}
 use Rattle.rank_text.proofs.networks.read_networks.Goals as goal
 

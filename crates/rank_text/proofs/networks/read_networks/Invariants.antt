@@ -1,8 +1,8 @@
 use Rattle.std.proofs.Common.{◌≡◌, ◌≤◌, ◌+◌, length}
-use Rattle.problem_rules.specs.Each.{Each}
+use Rattle.tree_text_laws.specs.problem_rules.Each.{Each}
 use Rattle.tree_reading.specs.Place.{IsReached, lines_at}
 use Rattle.rank_check.specs.Known.{KnowsNetwork}
-use Rattle.rank_rules.specs.Read.{networks_taken}
+use Rattle.rank_check.specs.rank_rules.Read.{networks_taken}
 use Rattle.rank_text.proofs.Together.{with_networks}
 use Rattle.rank_text.proofs.networks.read_networks.Given as goal
 

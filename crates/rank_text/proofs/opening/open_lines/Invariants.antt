@@ -1,7 +1,7 @@
 use Rattle.std.proofs.Common.{◌≡◌, ◌-◌, ◌++◌, length, take, map}
 use Rattle.rank_check.specs.View.{mark_of}
 use Rattle.tree_reading.specs.Place.{IsReached, lines_at}
-use Rattle.rank_rules.specs.Opened.{opened, marks_taken, so_far}
+use Rattle.rank_check.specs.rank_rules.Opened.{opened, marks_taken, so_far}
 use Rattle.rank_text.proofs.OpenBytes.{bytes_of, opened_from}
 use Rattle.rank_text.proofs.opening.open_lines.Given as goal
 

@@ -1,5 +1,5 @@
 use Rattle.std.proofs.lemmas.Result.{err_from_is_err_and}
-use Rattle.tree_text.proofs.Printed.{two_printed, part_failed}
+use Rattle.tree_text.proofs.Cited.{two_printed, part_failed}
 use Rattle.rank_text.proofs.print.print_rank.Goals as goal
 
 pub returns-in_err-put_front-clause-prints : goal.returns-in_err-put_front-clause-prints

@@ -1,6 +1,6 @@
 use Rattle.std.proofs.Common.{◌≡◌, ◌∷◌, [], true, false, sym, ap, rules}
-use Rattle.rank_rules.specs.Spelling.{distinct_word, distinct_lines}
-use Rattle.tree_text.proofs.Printed.{printed_as, none_put}
+use Rattle.rank_check.specs.rank_rules.Spelling.{distinct_word, distinct_lines}
+use Rattle.tree_text.proofs.Cited.{printed_as, none_put}
 use Rattle.rank_text.proofs.print.put_distinct.Goals as goal
 
 pub returns-then-not-distinct-clause-prints : goal.returns-then-not-distinct-clause-prints

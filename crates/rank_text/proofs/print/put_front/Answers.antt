@@ -1,7 +1,7 @@
 use Rattle.std.proofs.Common.{◌∷◌, []}
 use Rattle.std.proofs.lemmas.Result.{err_from_is_err_and}
-use Rattle.rank_rules.specs.Spelling.{file_type}
-use Rattle.tree_text.proofs.Printed.{two_printed, part_failed}
+use Rattle.rank_check.specs.rank_rules.Spelling.{file_type}
+use Rattle.tree_text.proofs.Cited.{two_printed, part_failed}
 use Rattle.rank_text.proofs.print.put_front.Goals as goal
 
 pub returns-in_err-put_line-clause-prints : goal.returns-in_err-put_line-clause-prints

@@ -1,4 +1,4 @@
-use Rattle.rank_rules.specs.Spelling.{named_line}
+use Rattle.rank_check.specs.rank_rules.Spelling.{named_line}
 use Rattle.rank_text.proofs.print.put_named.Goals as goal
 
 pub returns-clause-prints : goal.returns-clause-prints

@@ -1,7 +1,7 @@
 use Rattle.std.proofs.Common.{ap, arith, flat_map}
 use Rattle.std.proofs.lemmas.Result.{err_from_is_err_and}
-use Rattle.tree_text.proofs.Printed.{then_printed, then_failed, item_ahead}
-use Rattle.tree_text_rules.specs.Spelling.{network_lines}
+use Rattle.tree_text.proofs.Cited.{then_printed, then_failed, item_ahead}
+use Rattle.tree_text_laws.specs.tree_text_rules.Spelling.{network_lines}
 use Rattle.rank_text.proofs.print.put_networks.Goals as goal
 
 pub returns-in_err-print_network-clause-prints : goal.returns-in_err-print_network-clause-prints

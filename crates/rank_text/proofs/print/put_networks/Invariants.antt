@@ -1,7 +1,7 @@
 use Rattle.std.proofs.Common.{◌≤◌, drop, flat_map}
-use Rattle.problem_rules.specs.Each.{Each}
-use Rattle.tree_text_rules.specs.Spelling.{network_lines}
-use Rattle.tree_text.proofs.Printed.{ArePrinted}
+use Rattle.tree_text_laws.specs.problem_rules.Each.{Each}
+use Rattle.tree_text_laws.specs.tree_text_rules.Spelling.{network_lines}
+use Rattle.tree_text.proofs.Cited.{ArePrinted}
 use Rattle.rank_check.specs.Known.{KnowsNetwork}
 use Rattle.rank_text.proofs.print.put_networks.Given as goal
 

@@ -1,10 +1,10 @@
 use Rattle.std.proofs.Common.{◌∙◌, ap, arith, map, refl, List}
 use Rattle.std.proofs.lemmas.Result.{err_from_is_err_and}
-use Rattle.rank_rules.specs.Marked.{Mark, marks_behind}
+use Rattle.rank_check.specs.rank_rules.Marked.{Mark, marks_behind}
 use Rattle.rank_check.specs.View.{mark_of}
-use Rattle.tree_rules.specs.Leaf.{Leaf}
-use Rattle.tree_rules.specs.Tree.{TreeNode}
-use Rattle.tree_text.proofs.Printed.{then_printed, then_failed, item_ahead}
+use Rattle.tree_text_laws.specs.tree_rules.Leaf.{Leaf}
+use Rattle.tree_text_laws.specs.tree_rules.Tree.{TreeNode}
+use Rattle.tree_text.proofs.Cited.{then_printed, then_failed, item_ahead}
 use Rattle.rank_text.proofs.Printing.{node_ahead}
 use Rattle.rank_text.proofs.print.put_nodes.Goals as goal
 

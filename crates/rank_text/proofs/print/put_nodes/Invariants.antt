@@ -1,9 +1,9 @@
 use Rattle.std.proofs.Common.{◌≤◌, drop, map}
-use Rattle.tree_rules.specs.Known.{KnowsTree}
-use Rattle.rank_rules.specs.Marked.{marked}
+use Rattle.tree_text_laws.specs.tree_rules.Known.{KnowsTree}
+use Rattle.rank_check.specs.rank_rules.Marked.{marked}
 use Rattle.rank_check.specs.View.{mark_of}
-use Rattle.tree_text.proofs.Printed.{ArePrinted}
-use Rattle.rank_rules.specs.Spelling.{tree_lines}
+use Rattle.tree_text.proofs.Cited.{ArePrinted}
+use Rattle.rank_check.specs.rank_rules.Spelling.{tree_lines}
 use Rattle.rank_text.proofs.print.put_nodes.Given as goal
 
 abbrev pub invariant-printing : goal.invariant-printing

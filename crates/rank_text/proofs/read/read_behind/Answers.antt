@@ -1,5 +1,5 @@
 use Rattle.std.proofs.Common.{◌∙◌, Ok, sym, ap}
-use Rattle.rank_rules.specs.Text.{Text}
+use Rattle.rank_check.specs.rank_rules.Text.{Text}
 use Rattle.tree_reading.specs.Place.{lines_at}
 use Rattle.rank_text.proofs.Texts.{numbered, ways, behind_back}
 use Rattle.rank_text.proofs.Together.{both_ok, named_bad, both_bad}

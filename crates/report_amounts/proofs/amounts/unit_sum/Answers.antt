@@ -1,5 +1,5 @@
 use Rattle.std.proofs.Common.{◌≡◌, ◌∙◌, ap}
-use Rattle.number_sets.specs.Sets.{has}
+use Rattle.report_rules.specs.number_sets.Sets.{has}
 use Rattle.report_rules.specs.Number.{Number, plus, sum_from}
 use Rattle.report_rules.specs.Amounts.{amount}
 use Rattle.report_amounts.proofs.Walk.{all_within, next_within, rest_within}

@@ -1,5 +1,5 @@
 use Rattle.std.proofs.Common.{◌≡◌}
-use Rattle.number_sets.specs.Sets.{has, IsWithin}
+use Rattle.report_rules.specs.number_sets.Sets.{has, IsWithin}
 use Rattle.report_rules.specs.Number.{sum_from}
 use Rattle.report_rules.specs.Amounts.{amount, unit_sum}
 use Rattle.report_amounts.proofs.amounts.unit_sum.Given as goal

@@ -1,8 +1,8 @@
 use Rattle.std.proofs.Common.{◌≡◌, ◌<◌, ◌∙◌, sym, ap, subst, true, length}
-use Rattle.problem_rules.specs.Problem.{Problem}
-use Rattle.number_sets.specs.Sets.{has}
-use Rattle.flow_rules.specs.Net.{net_of, materials_of}
-use Rattle.tree_rules.specs.Claim.{IsFeasible}
+use Rattle.report_rules.specs.problem_rules.Problem.{Problem}
+use Rattle.report_rules.specs.number_sets.Sets.{has}
+use Rattle.report_rules.specs.flow_rules.Net.{net_of, materials_of}
+use Rattle.report_rules.specs.tree_rules.Claim.{IsFeasible}
 use Rattle.report_rules.specs.Number.{Number, plus, sum_from}
 use Rattle.report_rules.specs.Amounts.{cost, part_of}
 use Rattle.report_amounts.proofs.Walk.{all_within, next_within, rest_within}

@@ -1,6 +1,6 @@
 use Rattle.std.proofs.Common.{◌≡◌}
-use Rattle.number_sets.specs.Sets.{has, IsWithin}
-use Rattle.flow_rules.specs.Net.{net_of, materials_of}
+use Rattle.report_rules.specs.number_sets.Sets.{has, IsWithin}
+use Rattle.report_rules.specs.flow_rules.Net.{net_of, materials_of}
 use Rattle.report_rules.specs.Number.{sum_from}
 use Rattle.report_rules.specs.Amounts.{cost, part_of, cost_sum}
 use Rattle.report_amounts.proofs.costs.cost_sum.Given as goal

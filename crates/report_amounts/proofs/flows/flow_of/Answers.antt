@@ -2,10 +2,10 @@ use Rattle.std.proofs.Common.{◌≡◌, ◌∙◌, sym, subst, List, ℕ, pos, 
 use Rattle.std.proofs.Common.{◌*ℤ◌}
 use Rattle.std.specs.Int.{w64, w128}
 use Rattle.std.proofs.lemmas.Int.{to_z-of_z}
-use Rattle.number_sets.specs.Sets.{has, IsSet}
-use Rattle.problem_rules.specs.Problem.{rate_of}
-use Rattle.flow_rules.specs.Net.{net_of}
-use Rattle.tree_rules.specs.Claim.{size_in}
+use Rattle.report_rules.specs.number_sets.Sets.{has, IsSet}
+use Rattle.report_rules.specs.problem_rules.Problem.{rate_of}
+use Rattle.report_rules.specs.flow_rules.Net.{net_of}
+use Rattle.report_rules.specs.tree_rules.Claim.{size_in}
 use Rattle.report_amounts.proofs.FlowLemmas.{IsMadeSoFar, made_begins, made_ends, made_more}
 use Rattle.report_amounts.proofs.Walk.{next_within}
 use Rattle.report_amounts.proofs.flows.flow_of.Goals as goal

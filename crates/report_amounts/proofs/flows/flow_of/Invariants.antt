@@ -1,5 +1,5 @@
-use Rattle.flow_rules.specs.Net.{net_of}
-use Rattle.tree_rules.specs.Claim.{size_in}
+use Rattle.report_rules.specs.flow_rules.Net.{net_of}
+use Rattle.report_rules.specs.tree_rules.Claim.{size_in}
 use Rattle.report_amounts.proofs.FlowLemmas.{IsMadeSoFar}
 use Rattle.report_amounts.proofs.flows.flow_of.Given as goal
 

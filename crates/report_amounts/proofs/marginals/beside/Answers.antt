@@ -1,6 +1,6 @@
 use Rattle.std.proofs.Common.{◌<◌, ◌≤◌, length}
 use Rattle.std.proofs.lemmas.List.{drop_all}
-use Rattle.flow_rules.specs.Net.{beside}
+use Rattle.report_rules.specs.flow_rules.Net.{beside}
 use Rattle.report_amounts.proofs.SizeLemmas.{size_later, size_none}
 use Rattle.report_amounts.proofs.marginals.beside.Goals as goal
 

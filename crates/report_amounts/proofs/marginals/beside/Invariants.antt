@@ -1,5 +1,5 @@
 use Rattle.std.proofs.Common.{◌≡◌, drop}
-use Rattle.flow_rules.specs.Net.{beside}
+use Rattle.report_rules.specs.flow_rules.Net.{beside}
 use Rattle.report_amounts.proofs.marginals.beside.Given as goal
 
 abbrev pub invariant-rows : goal.invariant-rows

@@ -1,18 +1,19 @@
 use Rattle.std.proofs.Common.{◌≡◌, ◌<◌, ◌∙◌, ◌++◌, ◌∷◌, sym, subst, List, ℕ, Some, length, pos}
 use Rattle.csv.specs.Writing.{default_writer, row_text}
-use Rattle.number_sets.specs.Sets.{has}
-use Rattle.number_sets.proofs.SetLemmas.{has_below, AreBelow-listed}
-use Rattle.problem_rules.specs.Problem.{Problem}
-use Rattle.pns_rules.specs.Shape.{shape_of}
-use Rattle.pns_rules.specs.Structure.{mats}
-use Rattle.flow_rules.specs.Net.{net_of, materials_of}
-use Rattle.flow_rules.specs.Steps.{AreInRange}
-use Rattle.flow_rules.specs.FeasibleSteps.{units_at, balance_steps}
-use Rattle.tree_rules.specs.Claim.{size_in}
+use Rattle.report_rules.specs.number_sets.Sets.{has}
+use Rattle.report_rules.proofs.number_sets.Cited.{has_below, AreBelow-listed}
+use Rattle.report_rules.specs.problem_rules.Problem.{Problem}
+use Rattle.report_rules.specs.pns_rules.Shape.{shape_of}
+use Rattle.report_rules.specs.pns_rules.Structure.{mats}
+use Rattle.report_rules.specs.flow_rules.Net.{net_of, materials_of}
+use Rattle.report_rules.specs.flow_rules.Steps.{AreInRange}
+use Rattle.report_rules.specs.flow_rules.FeasibleSteps.{units_at, balance_steps}
+use Rattle.report_rules.specs.tree_rules.Claim.{size_in}
 use Rattle.report_rules.specs.Table.{material_heading, IsMaterialRow, IsMaterialTable, records_text}
 use Rattle.report_amounts.specs.Written.{HasWritten}
 use Rattle.report_amounts.proofs.FlowLemmas.{material_in_range}
-use Rattle.report_amounts.proofs.RowLemmas.{IsTableSoFar, table_begins, table_more, table_ends, if_ok}
+use Rattle.report_amounts.proofs.RowLemmas.{IsTableSoFar, table_begins, table_more, table_ends}
+use Rattle.report_amounts.proofs.RowLemmas.{if_ok}
 use Rattle.report_amounts.proofs.Walk.{all_within, next_within, rest_within}
 use Rattle.report_amounts.proofs.materials.material_table.Goals as goal
 

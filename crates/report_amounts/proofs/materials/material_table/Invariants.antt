@@ -1,6 +1,6 @@
 use Rattle.std.proofs.Common.{Some}
-use Rattle.number_sets.specs.Sets.{has, IsWithin}
-use Rattle.flow_rules.specs.Net.{net_of, materials_of}
+use Rattle.report_rules.specs.number_sets.Sets.{has, IsWithin}
+use Rattle.report_rules.specs.flow_rules.Net.{net_of, materials_of}
 use Rattle.report_rules.specs.Table.{material_heading, IsMaterialRow}
 use Rattle.report_amounts.proofs.RowLemmas.{IsTableSoFar}
 use Rattle.report_amounts.proofs.materials.material_table.Given as goal

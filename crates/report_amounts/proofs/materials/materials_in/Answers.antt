@@ -1,7 +1,7 @@
 use Rattle.std.proofs.Common.{◌≡◌, ◌<◌, ◌∙◌, sym, subst, true, ℕ, List}
-use Rattle.number_sets.specs.Sets.{has}
-use Rattle.pns_rules.specs.Shape.{Shape, shape_of}
-use Rattle.pns_rules.specs.Structure.{mats}
+use Rattle.report_rules.specs.number_sets.Sets.{has}
+use Rattle.report_rules.specs.pns_rules.Shape.{Shape, shape_of}
+use Rattle.report_rules.specs.pns_rules.Structure.{mats}
 use Rattle.report_amounts.proofs.FlowLemmas.{materials_are}
 use Rattle.report_amounts.proofs.materials.materials_in.Goals as goal
 

@@ -3,15 +3,15 @@ use Rattle.std.proofs.Common.{rules}
 use Rattle.std.specs.Int.{w128}
 use Rattle.std.proofs.lemmas.Int.{to_z-of_z}
 use Rattle.csv.specs.Writing.{default_writer, row_text}
-use Rattle.number_sets.specs.Sets.{has}
-use Rattle.text_rules.specs.Canonical.{kind_word}
-use Rattle.flow_rules.specs.Net.{net_of}
-use Rattle.flow_rules.specs.Flows.{balance}
-use Rattle.tree_rules.specs.Claim.{size_in}
+use Rattle.report_rules.specs.number_sets.Sets.{has}
+use Rattle.report_rules.specs.text_rules.Canonical.{kind_word}
+use Rattle.report_rules.specs.flow_rules.Net.{net_of}
+use Rattle.report_rules.specs.flow_rules.Flows.{balance}
+use Rattle.report_rules.specs.tree_rules.Claim.{size_in}
 use Rattle.report_rules.specs.Table.{IsQuotient}
 use Rattle.report_amounts.specs.Written.{HasWritten}
 use Rattle.report_amounts.proofs.RowLemmas.{on_ok}
-use Rattle.problem_rules.specs.Problem.{Material, material_at}
+use Rattle.report_rules.specs.problem_rules.Problem.{Material, material_at}
 use Rattle.report_amounts.proofs.ReadLemmas.{material_read}
 use Rattle.report_amounts.proofs.materials.push_material.Goals as goal
 

@@ -1,13 +1,13 @@
 use Rattle.std.proofs.Common.{◌≡◌, ◌<◌, ◌∙◌, ap, sym, subst, ℕ, List, Some, true, length}
-use Rattle.number_sets.specs.Sets.{has, listed}
-use Rattle.problem_rules.specs.Problem.{Problem}
-use Rattle.pns_rules.specs.Shape.{Shape}
-use Rattle.pns_rules.specs.Structure.{mats}
-use Rattle.pns_rules.specs.Nodes.{Node}
-use Rattle.pgraph.specs.View.{node_of}
-use Rattle.flow_rules.specs.Net.{net_of}
-use Rattle.flow_rules.specs.Relaxed.{stays, rows}
-use Rattle.tree_rules.specs.LeastFlows.{decided, rows_of}
+use Rattle.report_rules.specs.number_sets.Sets.{has, listed}
+use Rattle.report_rules.specs.problem_rules.Problem.{Problem}
+use Rattle.report_rules.specs.pns_rules.Shape.{Shape}
+use Rattle.report_rules.specs.pns_rules.Structure.{mats}
+use Rattle.report_rules.specs.pns_rules.Nodes.{Node}
+use Rattle.flow_evaluator.specs.pgraph.View.{node_of}
+use Rattle.report_rules.specs.flow_rules.Net.{net_of}
+use Rattle.report_rules.specs.flow_rules.Relaxed.{stays, rows}
+use Rattle.report_rules.specs.tree_rules.LeastFlows.{decided, rows_of}
 use Rattle.report_rules.specs.Marginal.{Marginals, Multipliers, AreMarginals}
 use Rattle.report_amounts.proofs.network.least.Goals as goal
 

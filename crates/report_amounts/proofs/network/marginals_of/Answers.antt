@@ -1,10 +1,10 @@
 use Rattle.std.proofs.Common.{◌≡◌, sym, subst, ℕ, List, true}
-use Rattle.number_sets.specs.Sets.{has}
-use Rattle.pns_rules.specs.Shape.{shape_of}
-use Rattle.pns_rules.specs.Structure.{IsStructure}
-use Rattle.flow_rules.specs.Net.{net_of}
-use Rattle.flow_rules.specs.Flows.{IsFlows}
-use Rattle.tree_rules.specs.Claim.{size_in}
+use Rattle.report_rules.specs.number_sets.Sets.{has}
+use Rattle.report_rules.specs.pns_rules.Shape.{shape_of}
+use Rattle.report_rules.specs.pns_rules.Structure.{IsStructure}
+use Rattle.report_rules.specs.flow_rules.Net.{net_of}
+use Rattle.report_rules.specs.flow_rules.Flows.{IsFlows}
+use Rattle.report_rules.specs.tree_rules.Claim.{size_in}
 use Rattle.report_rules.specs.Marginal.{AreMarginals}
 use Rattle.report_amounts.proofs.network.marginals_of.Goals as goal
 

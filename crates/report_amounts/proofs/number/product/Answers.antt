@@ -1,5 +1,5 @@
 use Rattle.std.proofs.Common.{◌∙◌, sym, ap, refl, ◌*ℤ◌}
-use Rattle.integer_laws.proofs.Order.{mul_pos}
+use Rattle.report_rules.proofs.integer_laws.Cited.{mul_pos}
 use Rattle.report_rules.specs.Number.{kept}
 use Rattle.report_amounts.proofs.Fractions.{lowest_is, kept_in_range, kept_past}
 use Rattle.report_amounts.proofs.number.product.Goals as goal

@@ -1,5 +1,5 @@
 use Rattle.std.proofs.Common.{◌++◌, ◌∙◌, ap, ℕ, codes, string_bytes}
-use Rattle.pns_problem.proofs.PrintingLemmas.{after}
+use Rattle.flow_evaluator.proofs.pns_problem.Cited.{after}
 use Rattle.report_rules.specs.Lower.{rounded_up, tenths_text}
 use Rattle.report_amounts.proofs.number.push_gap_of.Goals as goal
 

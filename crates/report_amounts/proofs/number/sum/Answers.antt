@@ -1,5 +1,5 @@
 use Rattle.std.proofs.Common.{◌∙◌, sym, refl, true≢false}
-use Rattle.integer_laws.proofs.Order.{mul_pos}
+use Rattle.report_rules.proofs.integer_laws.Cited.{mul_pos}
 use Rattle.report_rules.specs.Number.{Fraction}
 use Rattle.report_amounts.proofs.Fractions.{sum_kept, sum_past}
 use Rattle.report_amounts.proofs.number.sum.Goals as goal

@@ -1,7 +1,7 @@
 use Rattle.std.proofs.Common.{◌<◌, ◌≤◌, subst, length, List, ℤ}
 use Rattle.std.proofs.lemmas.List.{drop_all}
 use Rattle.report_amounts.proofs.SizeLemmas.{size_later, size_none}
-use Rattle.tree_rules.specs.Claim.{size_in}
+use Rattle.report_rules.specs.tree_rules.Claim.{size_in}
 use Rattle.report_amounts.proofs.sizes.size_at.Goals as goal
 
 pub units-preserved : goal.units-preserved

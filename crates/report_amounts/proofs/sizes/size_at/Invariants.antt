@@ -1,6 +1,6 @@
 use Rattle.std.proofs.Common.{◌≡◌, drop}
-use Rattle.flow_rules.specs.Net.{beside}
-use Rattle.tree_rules.specs.Claim.{size_in}
+use Rattle.report_rules.specs.flow_rules.Net.{beside}
+use Rattle.report_rules.specs.tree_rules.Claim.{size_in}
 use Rattle.report_amounts.proofs.sizes.size_at.Given as goal
 
 abbrev pub invariant-units : goal.invariant-units

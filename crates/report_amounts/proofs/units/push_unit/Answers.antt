@@ -3,9 +3,9 @@ use Rattle.std.proofs.Common.{Some}
 use Rattle.std.specs.Int.{w64, w128}
 use Rattle.std.specs.Fmt.{signed_decimal}
 use Rattle.std.proofs.lemmas.Int.{to_z-of_z}
-use Rattle.problem_rules.specs.Problem.{OperatingUnit, unit_at}
+use Rattle.report_rules.specs.problem_rules.Problem.{OperatingUnit, unit_at}
 use Rattle.csv.specs.Writing.{default_writer, row_text}
-use Rattle.tree_rules.specs.Claim.{size_in}
+use Rattle.report_rules.specs.tree_rules.Claim.{size_in}
 use Rattle.report_rules.specs.Table.{IsQuotient}
 use Rattle.report_amounts.specs.Written.{HasWritten}
 use Rattle.report_amounts.proofs.ReadLemmas.{unit_read}

@@ -1,8 +1,9 @@
 use Rattle.std.proofs.Common.{◌≡◌, ◌∙◌, ◌∷◌, sym, subst, List, ℕ, Some}
-use Rattle.number_sets.specs.Sets.{has}
-use Rattle.number_sets.proofs.SetLemmas.{has_below}
+use Rattle.report_rules.specs.number_sets.Sets.{has}
+use Rattle.report_rules.proofs.number_sets.Cited.{has_below}
 use Rattle.report_rules.specs.Table.{unit_heading, IsUnitRow, IsUnitTable, records_text}
-use Rattle.report_amounts.proofs.RowLemmas.{IsTableSoFar, table_begins, table_more, table_ends, if_ok}
+use Rattle.report_amounts.proofs.RowLemmas.{IsTableSoFar, table_begins, table_more, table_ends}
+use Rattle.report_amounts.proofs.RowLemmas.{if_ok}
 use Rattle.report_amounts.proofs.Walk.{all_within, next_within, rest_within}
 use Rattle.report_amounts.proofs.units.unit_table.Goals as goal
 

@@ -1,5 +1,5 @@
 use Rattle.std.proofs.Common.{Some}
-use Rattle.number_sets.specs.Sets.{has, IsWithin}
+use Rattle.report_rules.specs.number_sets.Sets.{has, IsWithin}
 use Rattle.report_rules.specs.Table.{unit_heading, IsUnitRow}
 use Rattle.report_amounts.proofs.RowLemmas.{IsTableSoFar}
 use Rattle.report_amounts.proofs.units.unit_table.Given as goal

@@ -1,18 +1,17 @@
 use Rattle.std.proofs.Common.{◌≡◌, ◌∙◌, [], refl, inl, sym, subst, ap, ℕ, List, codes}
-use Rattle.problem_rules.specs.Problem.{Problem}
-use Rattle.report_rules.specs.Measures.{Measures, measures_of}
-use Rattle.studio_rules.specs.Lines.{line}
-use Rattle.studio_rules.specs.Reading.{GivesProblem, TwoTextsSay}
-use Rattle.studio_rules.specs.RankReport.{RankReportWork, ReportsOn}
-use Rattle.studio_rules.specs.Report.{ReportWork}
-use Rattle.studio_rules.specs.TextFile.{OnEither, EitherSays}
-use Rattle.studio_rules.specs.Ending.{Ends, Says}
-use Rattle.studio_rules.specs.declared.status.Status.{Status}
-use Rattle.studio_rules.specs.declared.status.Status.TheVariants.{Memory}
-use Rattle.command_files.proofs.Ending.{Ends-map, Ends-from, only_in}
-use Rattle.command_files.proofs.Files.{has_type}
-use Rattle.command_files.proofs.Seconds.{on_texts-faults, on_texts-work}
-use Rattle.command_files.proofs.Keeping.{keeps_through}
+use Rattle.rank_text.specs.problem_rules.Problem.{Problem}
+use Rattle.json_text.specs.report_rules.Measures.{Measures, measures_of}
+use Rattle.network_commands.specs.studio_rules.Lines.{line}
+use Rattle.network_commands.specs.studio_rules.Reading.{GivesProblem, TwoTextsSay}
+use Rattle.network_commands.specs.studio_rules.RankReport.{RankReportWork, ReportsOn}
+use Rattle.network_commands.specs.studio_rules.Report.{ReportWork}
+use Rattle.network_commands.specs.studio_rules.TextFile.{OnEither, EitherSays}
+use Rattle.network_commands.specs.studio_rules.Ending.{Ends, Says}
+use Rattle.network_commands.specs.studio_rules.declared.status.Status.{Status}
+use Rattle.network_commands.specs.studio_rules.declared.status.Status.TheVariants.{Memory}
+use Rattle.network_commands.proofs.command_files.Cited.{Ends-map, Ends-from, only_in, has_type}
+use Rattle.network_commands.proofs.command_files.Cited.{on_texts-faults}
+use Rattle.network_commands.proofs.command_files.Cited.{on_texts-work, keeps_through}
 use Rattle.report_commands.proofs.call.report.Goals as goal
 
 -- what is said of the second file, by the bytes of the first

@@ -1,8 +1,7 @@
 use Rattle.std.proofs.Common.{◌≡◌, sym, subst, ℕ, List}
-use Rattle.studio_rules.specs.Ending.{Says, Tells}
-use Rattle.studio_rules.specs.declared.status.Status.{Status}
-use Rattle.command_files.proofs.Ending.{Ends-map, Ends-from, Says-told}
-use Rattle.command_files.proofs.Seconds.{long-faults}
+use Rattle.network_commands.specs.studio_rules.Ending.{Says, Tells}
+use Rattle.network_commands.specs.studio_rules.declared.status.Status.{Status}
+use Rattle.network_commands.proofs.command_files.Cited.{Ends-map, Ends-from, Says-told, long-faults}
 use Rattle.report_commands.specs.Works.{FormSays, OnForm}
 use Rattle.report_commands.proofs.Works.{of_long}
 use Rattle.report_commands.proofs.call.say_file.Goals as goal

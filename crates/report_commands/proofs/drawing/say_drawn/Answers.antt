@@ -1,15 +1,15 @@
 use Rattle.std.proofs.Common.{◌≡◌, ◌∷◌, [], refl, inl, subst, Bool, ℕ, List, codes}
-use Rattle.tree_rules.specs.Claim.{Network}
-use Rattle.rank_rules.specs.Networks.{ArePassing, IsFirstOff}
-use Rattle.rank_rules.specs.Ranked.{NetworkIsFault}
-use Rattle.rank_rules.specs.Text.{ranking_of}
-use Rattle.studio_rules.specs.RankGraph.{RankGraphWork}
-use Rattle.studio_rules.specs.RankWords.{network_line}
-use Rattle.studio_rules.specs.Lines.{line}
-use Rattle.studio_rules.specs.Ending.{Tells}
-use Rattle.studio_rules.specs.declared.status.Status.{Status}
-use Rattle.studio_rules.specs.declared.status.Status.TheVariants.{BadClaim}
-use Rattle.command_files.proofs.Ending.{Ends-map, only_or_memory_in, one_line}
+use Rattle.rank_text.specs.tree_rules.Claim.{Network}
+use Rattle.rank_text.specs.rank_rules.Networks.{ArePassing, IsFirstOff}
+use Rattle.rank_text.specs.rank_rules.Ranked.{NetworkIsFault}
+use Rattle.rank_text.specs.rank_rules.Text.{ranking_of}
+use Rattle.network_commands.specs.studio_rules.RankGraph.{RankGraphWork}
+use Rattle.network_commands.specs.studio_rules.RankWords.{network_line}
+use Rattle.network_commands.specs.studio_rules.Lines.{line}
+use Rattle.network_commands.specs.studio_rules.Ending.{Tells}
+use Rattle.network_commands.specs.studio_rules.declared.status.Status.{Status}
+use Rattle.network_commands.specs.studio_rules.declared.status.Status.TheVariants.{BadClaim}
+use Rattle.network_commands.proofs.command_files.Cited.{Ends-map, only_or_memory_in, one_line}
 use Rattle.report_commands.proofs.drawing.say_drawn.Goals as goal
 
 pub say_first-requires : goal.say_first-requires

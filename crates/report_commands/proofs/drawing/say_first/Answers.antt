@@ -1,16 +1,17 @@
 use Rattle.std.proofs.Common.{◌≡◌, ◌∷◌, [], ◌∙◌, refl, sym, inl, inr, subst, ℕ, List, codes}
-use Rattle.tree_rules.specs.Claim.{Network}
-use Rattle.tree_rules.specs.declared.why.Why.TheVariants.{Unknown}
-use Rattle.rank_rules.specs.Text.{ranking_of}
-use Rattle.report_tables.specs.First.{IsFirstFeasible}
-use Rattle.studio_rules.specs.Graph.{AreSceneLines}
-use Rattle.studio_rules.specs.RankGraph.{DrawsFirst, RankGraphWork}
-use Rattle.studio_rules.specs.RefusalWords.{claim_line}
-use Rattle.studio_rules.specs.Lines.{line}
-use Rattle.studio_rules.specs.Ending.{Tells}
-use Rattle.studio_rules.specs.declared.status.Status.{Status}
-use Rattle.studio_rules.specs.declared.status.Status.TheVariants.{BadClaim}
-use Rattle.command_files.proofs.Ending.{Ends-map, Ends-told, only_or_memory_in, one_line}
+use Rattle.rank_text.specs.tree_rules.Claim.{Network}
+use Rattle.rank_text.specs.tree_rules.declared.why.Why.TheVariants.{Unknown}
+use Rattle.rank_text.specs.rank_rules.Text.{ranking_of}
+use Rattle.json_text.specs.report_tables.First.{IsFirstFeasible}
+use Rattle.network_commands.specs.studio_rules.Graph.{AreSceneLines}
+use Rattle.network_commands.specs.studio_rules.RankGraph.{DrawsFirst, RankGraphWork}
+use Rattle.network_commands.specs.studio_rules.RefusalWords.{claim_line}
+use Rattle.network_commands.specs.studio_rules.Lines.{line}
+use Rattle.network_commands.specs.studio_rules.Ending.{Tells}
+use Rattle.network_commands.specs.studio_rules.declared.status.Status.{Status}
+use Rattle.network_commands.specs.studio_rules.declared.status.Status.TheVariants.{BadClaim}
+use Rattle.network_commands.proofs.command_files.Cited.{Ends-map, Ends-told, only_or_memory_in}
+use Rattle.network_commands.proofs.command_files.Cited.{one_line}
 use Rattle.report_commands.proofs.Works.{first_feasible, draws_first, none_of}
 use Rattle.report_commands.proofs.drawing.say_first.Goals as goal
 

@@ -1,8 +1,9 @@
 use Rattle.std.proofs.Common.{◌≡◌, ◌∷◌, [], ◌∙◌, ap, refl, ℕ, List, codes}
-use Rattle.branch_tree.specs.View.{claim_of}
-use Rattle.report_rules.specs.Facts.{text_member}
-use Rattle.studio_rules.specs.Lines.{text_of}
-use Rattle.studio_rules.specs.Json.{headed_word, claim_word, lines_behind, headed_json_lines}
+use Rattle.rank_text.specs.branch_tree.View.{claim_of}
+use Rattle.json_text.specs.report_rules.Facts.{text_member}
+use Rattle.network_commands.specs.studio_rules.Lines.{text_of}
+use Rattle.network_commands.specs.studio_rules.Json.{headed_word, claim_word, lines_behind}
+use Rattle.network_commands.specs.studio_rules.Json.{headed_json_lines}
 use Rattle.report_commands.proofs.headed.headed_text.Goals as goal
 
 pub returns : goal.returns

@@ -1,8 +1,8 @@
 use Rattle.std.proofs.Common.{◌≡◌, ◌∙◌, sym, subst, Bool}
 use Rattle.std.specs.Prelude.{IfErr}
 use Rattle.std.proofs.lemmas.Result.{IfOk-weaker}
-use Rattle.branch_tree.specs.View.{claim_of}
-use Rattle.verdicts.specs.Unjudged.{IsUnjudgedIf}
+use Rattle.rank_text.specs.branch_tree.View.{claim_of}
+use Rattle.network_commands.specs.verdicts.Unjudged.{IsUnjudgedIf}
 use Rattle.report_commands.proofs.HeadLemmas.{plain_says, headed_says}
 use Rattle.report_commands.proofs.headed.object_of.Goals as goal
 

@@ -1,15 +1,17 @@
 use Rattle.std.proofs.Common.{◌∷◌, ◌∙◌, [], refl, inl, ℕ, List, codes}
-use Rattle.branch_tree.specs.View.{claim_of}
-use Rattle.tree_reading.specs.Said.{said_by}
-use Rattle.tree_rules.specs.Claim.{ClaimFails}
-use Rattle.report_rules.specs.HeadedVerdict.{is_plain}
-use Rattle.studio_rules.specs.Lines.{line}
-use Rattle.studio_rules.specs.RefusalWords.{claim_line}
-use Rattle.studio_rules.specs.Json.{JsonWork}
-use Rattle.studio_rules.specs.Ending.{Tells}
-use Rattle.studio_rules.specs.declared.status.Status.{Status}
-use Rattle.studio_rules.specs.declared.status.Status.TheVariants.{Done, BadClaim, Memory}
-use Rattle.command_files.proofs.Ending.{Ends-map, only_in, only_or_memory_in, one_line}
+use Rattle.rank_text.specs.branch_tree.View.{claim_of}
+use Rattle.rank_text.specs.tree_reading.Said.{said_by}
+use Rattle.rank_text.specs.tree_rules.Claim.{ClaimFails}
+use Rattle.json_text.specs.report_rules.HeadedVerdict.{is_plain}
+use Rattle.network_commands.specs.studio_rules.Lines.{line}
+use Rattle.network_commands.specs.studio_rules.RefusalWords.{claim_line}
+use Rattle.network_commands.specs.studio_rules.Json.{JsonWork}
+use Rattle.network_commands.specs.studio_rules.Ending.{Tells}
+use Rattle.network_commands.specs.studio_rules.declared.status.Status.{Status}
+use Rattle.network_commands.specs.studio_rules.declared.status.Status.TheVariants.{Done, BadClaim}
+use Rattle.network_commands.specs.studio_rules.declared.status.Status.TheVariants.{Memory}
+use Rattle.network_commands.proofs.command_files.Cited.{Ends-map, only_in, only_or_memory_in}
+use Rattle.network_commands.proofs.command_files.Cited.{one_line}
 use Rattle.report_commands.proofs.json_call.say_judged.Goals as goal
 
 pub returns-in-Ok : goal.returns-in-Ok

@@ -1,8 +1,8 @@
 use Rattle.std.proofs.Common.{subst}
-use Rattle.problem_rules.specs.Problem.{Problem}
-use Rattle.tree_reading.specs.Said.{said_by}
-use Rattle.studio_rules.specs.Json.{JsonWork}
-use Rattle.studio_rules.specs.Ending.{Ends, Tells}
+use Rattle.rank_text.specs.problem_rules.Problem.{Problem}
+use Rattle.rank_text.specs.tree_reading.Said.{said_by}
+use Rattle.network_commands.specs.studio_rules.Json.{JsonWork}
+use Rattle.network_commands.specs.studio_rules.Ending.{Ends, Tells}
 use Rattle.report_commands.proofs.json_call.say_stated.Goals as goal
 
 pub returns : goal.returns

@@ -1,11 +1,12 @@
 use Rattle.std.proofs.Common.{◌≡◌, ◌∷◌, [], ◌∙◌, ap, refl, ℕ, List, codes}
-use Rattle.problem_rules.specs.Problem.{Problem}
-use Rattle.branch_tree.specs.View.{claim_of}
-use Rattle.report_rules.specs.Json.{member}
-use Rattle.report_rules.specs.Facts.{text_member}
-use Rattle.report_rules.specs.JsonLower.{low_json}
-use Rattle.studio_rules.specs.Lines.{text_of}
-use Rattle.studio_rules.specs.Json.{verdict_word, claim_word, lines_behind, json_lines}
+use Rattle.rank_text.specs.problem_rules.Problem.{Problem}
+use Rattle.rank_text.specs.branch_tree.View.{claim_of}
+use Rattle.json_text.specs.report_rules.Json.{member}
+use Rattle.json_text.specs.report_rules.Facts.{text_member}
+use Rattle.json_text.specs.report_rules.JsonLower.{low_json}
+use Rattle.network_commands.specs.studio_rules.Lines.{text_of}
+use Rattle.network_commands.specs.studio_rules.Json.{verdict_word, claim_word, lines_behind}
+use Rattle.network_commands.specs.studio_rules.Json.{json_lines}
 use Rattle.report_commands.proofs.json_text.json_text.Goals as goal
 
 pub returns : goal.returns

@@ -1,5 +1,5 @@
 use Rattle.std.proofs.Common.{◌∙◌}
-use Rattle.report_rules.specs.JsonRanked.{networks_member}
+use Rattle.json_text.specs.report_rules.JsonRanked.{networks_member}
 use Rattle.report_commands.proofs.object.listed_member.Goals as goal
 
 pub returns : goal.returns

@@ -1,17 +1,18 @@
 use Rattle.std.proofs.Common.{◌≡◌, ◌∷◌, [], ◌∙◌, ap, refl, sym, subst, ℕ, Bool, List, codes}
-use Rattle.problem_rules.specs.Problem.{Problem}
-use Rattle.tree_rules.specs.Claim.{Network}
-use Rattle.rank_rules.specs.Text.{ranking_of}
-use Rattle.report_rules.specs.Marginal.{AreFirstMarginals}
-use Rattle.report_rules.specs.RankLow.{best_claim}
-use Rattle.report_rules.specs.RankVerdict.{low_of}
-use Rattle.report_tables.specs.First.{IsFirstFeasible}
-use Rattle.report_rules.specs.Json.{member}
-use Rattle.report_rules.specs.Facts.{text_member}
-use Rattle.report_rules.specs.JsonLower.{bound_json, gap_between}
-use Rattle.report_rules.specs.JsonRanked.{lines_behind}
-use Rattle.studio_rules.specs.Lines.{text_of}
-use Rattle.studio_rules.specs.RankJson.{rank_verdict_word, claim_word, rank_json_lines}
+use Rattle.rank_text.specs.problem_rules.Problem.{Problem}
+use Rattle.rank_text.specs.tree_rules.Claim.{Network}
+use Rattle.rank_text.specs.rank_rules.Text.{ranking_of}
+use Rattle.json_text.specs.report_rules.Marginal.{AreFirstMarginals}
+use Rattle.json_text.specs.report_rules.RankLow.{best_claim}
+use Rattle.json_text.specs.report_rules.RankVerdict.{low_of}
+use Rattle.json_text.specs.report_tables.First.{IsFirstFeasible}
+use Rattle.json_text.specs.report_rules.Json.{member}
+use Rattle.json_text.specs.report_rules.Facts.{text_member}
+use Rattle.json_text.specs.report_rules.JsonLower.{bound_json, gap_between}
+use Rattle.json_text.specs.report_rules.JsonRanked.{lines_behind}
+use Rattle.network_commands.specs.studio_rules.Lines.{text_of}
+use Rattle.network_commands.specs.studio_rules.RankJson.{rank_verdict_word, claim_word}
+use Rattle.network_commands.specs.studio_rules.RankJson.{rank_json_lines}
 use Rattle.report_commands.proofs.Works.{first_feasible}
 use Rattle.report_commands.proofs.object.rank_object.Goals as goal
 

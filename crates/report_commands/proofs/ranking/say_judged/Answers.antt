@@ -1,12 +1,13 @@
 use Rattle.std.proofs.Common.{◌∷◌, [], refl, inl, ℕ, List, codes}
-use Rattle.rank_rules.specs.Ranked.{NetworkIsFault}
-use Rattle.rank_rules.specs.Text.{ranking_of}
-use Rattle.studio_rules.specs.Lines.{line}
-use Rattle.studio_rules.specs.RankWords.{network_line}
-use Rattle.studio_rules.specs.Ending.{Ends, Tells, Only, OrMemory}
-use Rattle.studio_rules.specs.declared.status.Status.{Status}
-use Rattle.studio_rules.specs.declared.status.Status.TheVariants.{BadClaim, Memory}
-use Rattle.command_files.proofs.Ending.{Ends-map, Ends-told, only_in, only_or_memory_in, one_line}
+use Rattle.rank_text.specs.rank_rules.Ranked.{NetworkIsFault}
+use Rattle.rank_text.specs.rank_rules.Text.{ranking_of}
+use Rattle.network_commands.specs.studio_rules.Lines.{line}
+use Rattle.network_commands.specs.studio_rules.RankWords.{network_line}
+use Rattle.network_commands.specs.studio_rules.Ending.{Ends, Tells, Only, OrMemory}
+use Rattle.network_commands.specs.studio_rules.declared.status.Status.{Status}
+use Rattle.network_commands.specs.studio_rules.declared.status.Status.TheVariants.{BadClaim, Memory}
+use Rattle.network_commands.proofs.command_files.Cited.{Ends-map, Ends-told, only_in}
+use Rattle.network_commands.proofs.command_files.Cited.{only_or_memory_in, one_line}
 use Rattle.report_commands.specs.Works.{VerdictWork, RankLines}
 use Rattle.report_commands.proofs.Works.{done, refused}
 use Rattle.report_commands.proofs.ranking.say_judged.Goals as goal

@@ -1,4 +1,4 @@
-use Rattle.studio_rules.specs.RankWords.{network_line}
+use Rattle.network_commands.specs.studio_rules.RankWords.{network_line}
 use Rattle.report_commands.proofs.ranking.say_network.Goals as goal
 
 pub returns : goal.returns

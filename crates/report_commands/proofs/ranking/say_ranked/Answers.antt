@@ -1,9 +1,9 @@
 use Rattle.std.proofs.Common.{sym, subst, ℕ, List}
-use Rattle.problem_rules.specs.Problem.{Problem}
-use Rattle.studio_rules.specs.RankReport.{RankReportWork}
-use Rattle.studio_rules.specs.RankJson.{RankJsonWork}
-use Rattle.studio_rules.specs.RankGraph.{RankGraphWork}
-use Rattle.studio_rules.specs.Ending.{Ends, Tells}
+use Rattle.rank_text.specs.problem_rules.Problem.{Problem}
+use Rattle.network_commands.specs.studio_rules.RankReport.{RankReportWork}
+use Rattle.network_commands.specs.studio_rules.RankJson.{RankJsonWork}
+use Rattle.network_commands.specs.studio_rules.RankGraph.{RankGraphWork}
+use Rattle.network_commands.specs.studio_rules.Ending.{Ends, Tells}
 use Rattle.report_commands.specs.declared.form.Form.{Form}
 use Rattle.report_commands.specs.Works.{RankWork}
 use Rattle.report_commands.proofs.ranking.say_ranked.Goals as goal

@@ -1,12 +1,13 @@
 use Rattle.std.proofs.Common.{◌≡◌, ◌∷◌, [], Ok, Err, refl, inl, inr, ℕ, List, codes}
-use Rattle.rank_rules.specs.Read.{read_text}
-use Rattle.studio_rules.specs.Lines.{line}
-use Rattle.studio_rules.specs.TreeFile.{tree_fault_line}
-use Rattle.studio_rules.specs.TextFile.{RankSays}
-use Rattle.studio_rules.specs.Ending.{Ends, Tells, Only, OrMemory}
-use Rattle.studio_rules.specs.declared.status.Status.{Status}
-use Rattle.studio_rules.specs.declared.status.Status.TheVariants.{BadTree, Memory}
-use Rattle.command_files.proofs.Ending.{Ends-map, Tells-map, only_in, only_or_memory_in, one_line}
+use Rattle.rank_text.specs.rank_rules.Read.{read_text}
+use Rattle.network_commands.specs.studio_rules.Lines.{line}
+use Rattle.network_commands.specs.studio_rules.TreeFile.{tree_fault_line}
+use Rattle.network_commands.specs.studio_rules.TextFile.{RankSays}
+use Rattle.network_commands.specs.studio_rules.Ending.{Ends, Tells, Only, OrMemory}
+use Rattle.network_commands.specs.studio_rules.declared.status.Status.{Status}
+use Rattle.network_commands.specs.studio_rules.declared.status.Status.TheVariants.{BadTree, Memory}
+use Rattle.network_commands.proofs.command_files.Cited.{Ends-map, Tells-map, only_in}
+use Rattle.network_commands.proofs.command_files.Cited.{only_or_memory_in, one_line}
 use Rattle.report_commands.specs.Works.{RankWork}
 use Rattle.report_commands.proofs.ranking.say_ranking.Goals as goal
 

@@ -1,12 +1,12 @@
 use Rattle.std.proofs.Common.{◌≡◌, ◌++◌, ◌∷◌, [], ◌∙◌, ap, refl, sym, subst, List}
-use Rattle.problem_rules.specs.Problem.{Problem}
-use Rattle.tree_rules.specs.Claim.{Network}
-use Rattle.rank_rules.specs.Text.{ranking_of}
-use Rattle.report_rules.specs.Marginal.{AreFirstMarginals}
-use Rattle.report_rules.specs.Ranked.{ranking_lines}
-use Rattle.report_tables.specs.First.{IsFirstFeasible}
-use Rattle.studio_rules.specs.Lines.{text_of}
-use Rattle.studio_rules.specs.RankReport.{rank_first_line, rank_report_lines}
+use Rattle.rank_text.specs.problem_rules.Problem.{Problem}
+use Rattle.rank_text.specs.tree_rules.Claim.{Network}
+use Rattle.rank_text.specs.rank_rules.Text.{ranking_of}
+use Rattle.json_text.specs.report_rules.Marginal.{AreFirstMarginals}
+use Rattle.json_text.specs.report_rules.Ranked.{ranking_lines}
+use Rattle.json_text.specs.report_tables.First.{IsFirstFeasible}
+use Rattle.network_commands.specs.studio_rules.Lines.{text_of}
+use Rattle.network_commands.specs.studio_rules.RankReport.{rank_first_line, rank_report_lines}
 use Rattle.report_commands.proofs.Works.{first_feasible}
 use Rattle.report_commands.proofs.report.rank_report.Goals as goal
 

@@ -1,15 +1,15 @@
 use Rattle.std.proofs.Common.{◌∙◌, [], refl, inl, ap, subst, ℕ, List, codes}
-use Rattle.tree_rules.specs.Claim.{Claim}
-use Rattle.tree_rules.specs.Accepted.{Tree}
-use Rattle.branch_tree.specs.View.{claim_of, tail_of}
-use Rattle.studio_rules.specs.Lines.{line}
-use Rattle.studio_rules.specs.Ending.{Tells}
-use Rattle.studio_rules.specs.Solve.{status_of}
-use Rattle.studio_rules.specs.Report.{ReportSays}
-use Rattle.studio_rules.specs.Show.{CertificateShows}
-use Rattle.studio_rules.specs.declared.status.Status.{Status}
-use Rattle.studio_rules.specs.declared.status.Status.TheVariants.{Memory}
-use Rattle.command_files.proofs.Ending.{Ends-map, only_in}
+use Rattle.rank_text.specs.tree_rules.Claim.{Claim}
+use Rattle.rank_text.specs.tree_rules.Accepted.{Tree}
+use Rattle.rank_text.specs.branch_tree.View.{claim_of, tail_of}
+use Rattle.network_commands.specs.studio_rules.Lines.{line}
+use Rattle.network_commands.specs.studio_rules.Ending.{Tells}
+use Rattle.network_commands.specs.studio_rules.Solve.{status_of}
+use Rattle.network_commands.specs.studio_rules.Report.{ReportSays}
+use Rattle.network_commands.specs.studio_rules.Show.{CertificateShows}
+use Rattle.network_commands.specs.studio_rules.declared.status.Status.{Status}
+use Rattle.network_commands.specs.studio_rules.declared.status.Status.TheVariants.{Memory}
+use Rattle.network_commands.proofs.command_files.Cited.{Ends-map, only_in}
 use Rattle.report_commands.proofs.Shown.{tells_of}
 use Rattle.report_commands.proofs.show.say_certificate.Goals as goal
 

@@ -1,10 +1,10 @@
 use Rattle.std.proofs.Common.{◌∙◌, sym}
-use Rattle.tree_text_rules.specs.Read.{Certificate}
-use Rattle.studio_rules.specs.Ending.{Tells}
-use Rattle.studio_rules.specs.Show.{CertificateShows}
-use Rattle.studio_rules.specs.declared.status.Status.TheVariants.{Memory}
-use Rattle.command_files.proofs.Ending.{Ends-map, Tells-map, Tells-memory, only_in}
-use Rattle.searches.proofs.FoundTexts.{can_print}
+use Rattle.rank_text.specs.tree_text_rules.Read.{Certificate}
+use Rattle.network_commands.specs.studio_rules.Ending.{Tells}
+use Rattle.network_commands.specs.studio_rules.Show.{CertificateShows}
+use Rattle.network_commands.specs.studio_rules.declared.status.Status.TheVariants.{Memory}
+use Rattle.network_commands.proofs.command_files.Cited.{Ends-map, Tells-map, Tells-memory, only_in}
+use Rattle.searches.proofs.Cited.{can_print}
 use Rattle.report_commands.specs.Shown.{FoundShows}
 use Rattle.report_commands.proofs.show.say_found.Goals as goal
 

@@ -1,8 +1,8 @@
 use Rattle.std.proofs.Common.{◌∙◌, refl}
-use Rattle.studio_rules.specs.Ending.{Tells}
-use Rattle.studio_rules.specs.Show.{HeadedShows}
-use Rattle.studio_rules.specs.declared.status.Status.TheVariants.{Done, Memory}
-use Rattle.command_files.proofs.Ending.{Ends-map, Tells-memory, only_in}
+use Rattle.network_commands.specs.studio_rules.Ending.{Tells}
+use Rattle.network_commands.specs.studio_rules.Show.{HeadedShows}
+use Rattle.network_commands.specs.studio_rules.declared.status.Status.TheVariants.{Done, Memory}
+use Rattle.network_commands.proofs.command_files.Cited.{Ends-map, Tells-memory, only_in}
 use Rattle.searches.specs.Solution.{certificate_of}
 use Rattle.report_commands.proofs.show.say_headed.Goals as goal
 

@@ -1,14 +1,14 @@
 use Rattle.std.proofs.Common.{sym, subst, arith}
-use Rattle.problem_rules.specs.Problem.{Problem}
-use Rattle.tree_rules.specs.Claim.{network}
-use Rattle.tree_rules.specs.Accepted.{first_node}
-use Rattle.abb_search.specs.Found.{IsFound}
-use Rattle.report_rules.specs.Measures.{Measures, measures_of}
-use Rattle.studio_rules.specs.Ending.{Ends, Tells}
-use Rattle.studio_rules.specs.Solve.{SolvesBy}
-use Rattle.studio_rules.specs.Show.{HeadedShows, ShowWork}
-use Rattle.studio_rules.specs.declared.status.Status.TheVariants.{Memory}
-use Rattle.command_files.proofs.Ending.{Ends-map, Tells-map, Tells-memory, only_in}
+use Rattle.rank_text.specs.problem_rules.Problem.{Problem}
+use Rattle.rank_text.specs.tree_rules.Claim.{network}
+use Rattle.rank_text.specs.tree_rules.Accepted.{first_node}
+use Rattle.searches.specs.abb_search.Found.{IsFound}
+use Rattle.json_text.specs.report_rules.Measures.{Measures, measures_of}
+use Rattle.network_commands.specs.studio_rules.Ending.{Ends, Tells}
+use Rattle.network_commands.specs.studio_rules.Solve.{SolvesBy}
+use Rattle.network_commands.specs.studio_rules.Show.{HeadedShows, ShowWork}
+use Rattle.network_commands.specs.studio_rules.declared.status.Status.TheVariants.{Memory}
+use Rattle.network_commands.proofs.command_files.Cited.{Ends-map, Tells-map, Tells-memory, only_in}
 use Rattle.searches.specs.declared.solves_search.Solution.{Solution}
 use Rattle.searches.specs.Solution.{IsSolution, certificate_of}
 use Rattle.report_commands.specs.Shown.{FoundShows}

@@ -1,11 +1,11 @@
 use Rattle.std.proofs.Common.{ℕ, List, subst, sym}
-use Rattle.problem_rules.specs.Problem.{Problem}
-use Rattle.studio_rules.specs.Show.{ShowWork}
-use Rattle.studio_rules.specs.Reading.{AreHeld, GivesProblem, TextSays}
-use Rattle.studio_rules.specs.Ending.{Tells}
-use Rattle.studio_rules.specs.declared.status.Status.{Status}
-use Rattle.command_files.proofs.Ending.{Ends-map, Ends-from}
-use Rattle.command_files.proofs.Files.{on_text-faults, on_text-work}
+use Rattle.rank_text.specs.problem_rules.Problem.{Problem}
+use Rattle.network_commands.specs.studio_rules.Show.{ShowWork}
+use Rattle.network_commands.specs.studio_rules.Reading.{AreHeld, GivesProblem, TextSays}
+use Rattle.network_commands.specs.studio_rules.Ending.{Tells}
+use Rattle.network_commands.specs.studio_rules.declared.status.Status.{Status}
+use Rattle.network_commands.proofs.command_files.Cited.{Ends-map, Ends-from, on_text-faults}
+use Rattle.network_commands.proofs.command_files.Cited.{on_text-work}
 use Rattle.report_commands.proofs.show.show.Goals as goal
 
 pub say_shown-requires : goal.say_shown-requires

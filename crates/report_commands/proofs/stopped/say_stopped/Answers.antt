@@ -1,7 +1,6 @@
 use Rattle.std.proofs.Common.{◌++◌, [], refl, append-nil}
-use Rattle.studio_rules.specs.Ending.{Only}
-use Rattle.command_files.proofs.Ending.{GoesOut, Ends-after, only_in}
-use Rattle.command_files.proofs.Put.{Ends-stopped}
+use Rattle.network_commands.specs.studio_rules.Ending.{Only}
+use Rattle.network_commands.proofs.command_files.Cited.{GoesOut, Ends-after, only_in, Ends-stopped}
 use Rattle.report_commands.proofs.Shown.{unfinished_goes, unfinished_text}
 use Rattle.report_commands.proofs.stopped.say_stopped.Goals as goal
 

@@ -1,15 +1,17 @@
 use Rattle.std.proofs.Common.{◌≡◌, ◌∷◌, [], Ok, Err, refl, inl, subst, ℕ, List, codes}
 use Rattle.std.specs.Prelude.{IfOk}
-use Rattle.report_rules.specs.declared.row.Row.{Row}
-use Rattle.report_rules.specs.Object.{table_lines}
-use Rattle.report_rules.specs.RangeTable.{read_table}
-use Rattle.studio_rules.specs.Lines.{line, text_of}
-use Rattle.studio_rules.specs.RangesJson.{TableSays}
-use Rattle.studio_rules.specs.TreeFile.{tree_fault_line}
-use Rattle.studio_rules.specs.Ending.{Ends, Tells, Only, OrMemory}
-use Rattle.studio_rules.specs.declared.status.Status.{Status}
-use Rattle.studio_rules.specs.declared.status.Status.TheVariants.{Done, BadTree, Memory}
-use Rattle.command_files.proofs.Ending.{Ends-map, only_in, only_or_memory_in, one_line}
+use Rattle.json_text.specs.report_rules.declared.row.Row.{Row}
+use Rattle.json_text.specs.report_rules.Object.{table_lines}
+use Rattle.json_text.specs.report_rules.RangeTable.{read_table}
+use Rattle.network_commands.specs.studio_rules.Lines.{line, text_of}
+use Rattle.network_commands.specs.studio_rules.RangesJson.{TableSays}
+use Rattle.network_commands.specs.studio_rules.TreeFile.{tree_fault_line}
+use Rattle.network_commands.specs.studio_rules.Ending.{Ends, Tells, Only, OrMemory}
+use Rattle.network_commands.specs.studio_rules.declared.status.Status.{Status}
+use Rattle.network_commands.specs.studio_rules.declared.status.Status.TheVariants.{Done, BadTree}
+use Rattle.network_commands.specs.studio_rules.declared.status.Status.TheVariants.{Memory}
+use Rattle.network_commands.proofs.command_files.Cited.{Ends-map, only_in, only_or_memory_in}
+use Rattle.network_commands.proofs.command_files.Cited.{one_line}
 use Rattle.report_commands.proofs.table.say_table.Goals as goal
 
 pub returns-in-Ok : goal.returns-in-Ok

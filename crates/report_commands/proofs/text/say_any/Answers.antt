@@ -1,7 +1,7 @@
-use Rattle.studio_rules.specs.RangesJson.{AnySays}
-use Rattle.studio_rules.specs.TextFile.{EitherSays}
-use Rattle.studio_rules.specs.Ending.{Tells}
-use Rattle.command_files.proofs.Ending.{Ends-map, Tells-map}
+use Rattle.network_commands.specs.studio_rules.RangesJson.{AnySays}
+use Rattle.network_commands.specs.studio_rules.TextFile.{EitherSays}
+use Rattle.network_commands.specs.studio_rules.Ending.{Tells}
+use Rattle.network_commands.proofs.command_files.Cited.{Ends-map, Tells-map}
 use Rattle.report_commands.specs.Works.{TreeWork, RankWork, FormSays}
 use Rattle.report_commands.specs.declared.form.Form.TheVariants.{Report, Graph}
 use Rattle.report_commands.proofs.Works.{in_report, in_json, in_graph}

@@ -1,8 +1,8 @@
 use Rattle.std.proofs.Common.{◌∙◌, sym, ℕ, List}
-use Rattle.studio_rules.specs.TextFile.{RankSays, EitherSays}
-use Rattle.studio_rules.specs.HeadedFile.{HeadedSays}
-use Rattle.studio_rules.specs.Ending.{Tells}
-use Rattle.command_files.proofs.Ending.{Ends-map, Tells-map}
+use Rattle.network_commands.specs.studio_rules.TextFile.{RankSays, EitherSays}
+use Rattle.network_commands.specs.studio_rules.HeadedFile.{HeadedSays}
+use Rattle.network_commands.specs.studio_rules.Ending.{Tells}
+use Rattle.network_commands.proofs.command_files.Cited.{Ends-map, Tells-map}
 use Rattle.report_commands.specs.Works.{TreeWork, RankWork}
 use Rattle.report_commands.proofs.Works.{of_ranking, of_tree}
 use Rattle.report_commands.proofs.text.say_either.Goals as goal

@@ -1,10 +1,10 @@
 use Rattle.std.proofs.Common.{◌∙◌, sym}
-use Rattle.studio_rules.specs.Json.{JsonWork}
-use Rattle.studio_rules.specs.RankJson.{RankJsonWork}
-use Rattle.studio_rules.specs.RangesJson.{TableSays, AnySays}
-use Rattle.studio_rules.specs.TextFile.{EitherSays}
-use Rattle.studio_rules.specs.Ending.{Tells}
-use Rattle.command_files.proofs.Ending.{Ends-map, Tells-map}
+use Rattle.network_commands.specs.studio_rules.Json.{JsonWork}
+use Rattle.network_commands.specs.studio_rules.RankJson.{RankJsonWork}
+use Rattle.network_commands.specs.studio_rules.RangesJson.{TableSays, AnySays}
+use Rattle.network_commands.specs.studio_rules.TextFile.{EitherSays}
+use Rattle.network_commands.specs.studio_rules.Ending.{Tells}
+use Rattle.network_commands.proofs.command_files.Cited.{Ends-map, Tells-map}
 use Rattle.report_commands.proofs.Works.{of_table, of_other}
 use Rattle.report_commands.proofs.text.say_object.Goals as goal
 

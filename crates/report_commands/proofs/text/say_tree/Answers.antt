@@ -1,19 +1,20 @@
 use Rattle.std.proofs.Common.{◌≡◌, ◌∷◌, [], Ok, Err, refl, inl, inr, subst, ℕ, List, codes}
-use Rattle.problem_rules.specs.Problem.{Problem}
-use Rattle.branch_tree.specs.View.{claim_of}
-use Rattle.tree_reading.specs.Said.{said_by}
-use Rattle.tree_text_rules.specs.Read.{read_headed_text}
-use Rattle.studio_rules.specs.Lines.{line}
-use Rattle.studio_rules.specs.TreeFile.{tree_fault_line}
-use Rattle.studio_rules.specs.HeadedFile.{HeadedSays}
-use Rattle.studio_rules.specs.Report.{ReportWork}
-use Rattle.studio_rules.specs.Json.{JsonWork}
-use Rattle.studio_rules.specs.Network.{OnNetwork}
-use Rattle.studio_rules.specs.Graph.{NetworkGraphWork}
-use Rattle.studio_rules.specs.Ending.{Ends, Tells, Only, OrMemory}
-use Rattle.studio_rules.specs.declared.status.Status.{Status}
-use Rattle.studio_rules.specs.declared.status.Status.TheVariants.{BadTree, Memory}
-use Rattle.command_files.proofs.Ending.{Ends-map, Tells-map, only_in, only_or_memory_in, one_line}
+use Rattle.rank_text.specs.problem_rules.Problem.{Problem}
+use Rattle.rank_text.specs.branch_tree.View.{claim_of}
+use Rattle.rank_text.specs.tree_reading.Said.{said_by}
+use Rattle.rank_text.specs.tree_text_rules.Read.{read_headed_text}
+use Rattle.network_commands.specs.studio_rules.Lines.{line}
+use Rattle.network_commands.specs.studio_rules.TreeFile.{tree_fault_line}
+use Rattle.network_commands.specs.studio_rules.HeadedFile.{HeadedSays}
+use Rattle.network_commands.specs.studio_rules.Report.{ReportWork}
+use Rattle.network_commands.specs.studio_rules.Json.{JsonWork}
+use Rattle.network_commands.specs.studio_rules.Network.{OnNetwork}
+use Rattle.network_commands.specs.studio_rules.Graph.{NetworkGraphWork}
+use Rattle.network_commands.specs.studio_rules.Ending.{Ends, Tells, Only, OrMemory}
+use Rattle.network_commands.specs.studio_rules.declared.status.Status.{Status}
+use Rattle.network_commands.specs.studio_rules.declared.status.Status.TheVariants.{BadTree, Memory}
+use Rattle.network_commands.proofs.command_files.Cited.{Ends-map, Tells-map, only_in}
+use Rattle.network_commands.proofs.command_files.Cited.{only_or_memory_in, one_line}
 use Rattle.report_commands.specs.Works.{TreeWork}
 use Rattle.report_commands.proofs.Works.{as_report, as_json, as_graph}
 use Rattle.report_commands.proofs.text.say_tree.Goals as goal

@@ -1,6 +1,6 @@
 use Rattle.std.proofs.Common.{◌++◌, codes, string_bytes}
 use Rattle.std.specs.Prelude.{decimal}
-use Rattle.pns_problem.proofs.PrintingLemmas.{after}
+use Rattle.rank_text.proofs.pns_problem.Cited.{after}
 use Rattle.report_commands.proofs.words.push_all_ones.Goals as goal
 
 pub returns : goal.returns

@@ -1,7 +1,7 @@
 use Rattle.std.proofs.Common.{◌++◌, ◌∙◌, ap, ℕ, List, codes, string_bytes}
 use Rattle.std.specs.Prelude.{decimal}
-use Rattle.pns_problem.proofs.PrintingLemmas.{after}
-use Rattle.studio_rules.specs.RankReport.{listed_word}
+use Rattle.rank_text.proofs.pns_problem.Cited.{after}
+use Rattle.network_commands.specs.studio_rules.RankReport.{listed_word}
 use Rattle.report_commands.proofs.words.push_best_ones.Goals as goal
 
 pub returns : goal.returns

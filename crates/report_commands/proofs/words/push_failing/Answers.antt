@@ -1,7 +1,7 @@
 use Rattle.std.proofs.Common.{◌++◌, ◌∷◌, [], ◌∙◌, ap, ℕ, List, codes, string_bytes, arith}
 use Rattle.std.specs.Prelude.{decimal}
-use Rattle.pns_problem.proofs.PrintingLemmas.{after}
-use Rattle.studio_rules.specs.RankWords.{rank_why_word}
+use Rattle.rank_text.proofs.pns_problem.Cited.{after}
+use Rattle.network_commands.specs.studio_rules.RankWords.{rank_why_word}
 use Rattle.report_commands.proofs.words.push_failing.Goals as goal
 
 pub returns : goal.returns

@@ -1,8 +1,8 @@
 use Rattle.std.proofs.Common.{◌++◌, codes, length, string_bytes}
 use Rattle.std.specs.Prelude.{decimal}
-use Rattle.pns_problem.proofs.PrintingLemmas.{after}
-use Rattle.studio_rules.specs.Report.{low_words}
-use Rattle.studio_rules.specs.RankReport.{gap_of_first}
+use Rattle.rank_text.proofs.pns_problem.Cited.{after}
+use Rattle.network_commands.specs.studio_rules.Report.{low_words}
+use Rattle.network_commands.specs.studio_rules.RankReport.{gap_of_first}
 use Rattle.report_commands.proofs.words.push_unfinished.Goals as goal
 
 pub returns : goal.returns

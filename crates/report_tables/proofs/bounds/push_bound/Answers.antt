@@ -2,9 +2,9 @@ use Rattle.std.proofs.Common.{◌++◌, ◌∙◌, ap, ℕ, List, codes, string_
 use Rattle.std.proofs.Common.{rules}
 use Rattle.std.specs.Int.{w128}
 use Rattle.std.proofs.lemmas.Int.{to_z-of_z}
-use Rattle.flow_rules.specs.Net.{million}
-use Rattle.report_rules.specs.Number.{Number, number_text}
-use Rattle.report_rules.specs.Amounts.{quotient}
+use Rattle.cert_check.specs.flow_rules.Net.{million}
+use Rattle.report_amounts.specs.report_rules.Number.{Number, number_text}
+use Rattle.report_amounts.specs.report_rules.Amounts.{quotient}
 use Rattle.report_tables.proofs.Appended.{five_pieces}
 use Rattle.report_tables.proofs.bounds.push_bound.Goals as goal
 

@@ -1,20 +1,20 @@
 use Rattle.std.proofs.Common.{◌≡◌, ◌<◌, ◌++◌, ◌∙◌, ap, sym, subst, ℕ, List, true, pos, length}
 use Rattle.std.proofs.Common.{string_bytes}
-use Rattle.number_sets.specs.Sets.{has, listed}
-use Rattle.problem_rules.specs.Problem.{Problem, rate_of}
-use Rattle.pns_rules.specs.Shape.{Shape, shape_of}
-use Rattle.pns_rules.specs.Structure.{mats}
-use Rattle.pgraph.specs.View.{node_of}
-use Rattle.pns_problem.specs.Printing.{printed}
-use Rattle.flow_rules.specs.Net.{net_of, beside}
-use Rattle.flow_rules.specs.Relaxed.{stays, units, rows}
-use Rattle.flow_rules.specs.Steps.{AreInRange}
-use Rattle.flow_rules.specs.BoundSteps.{rows_at, reduced_steps}
-use Rattle.flow_rules.proofs.SameLemmas.{Agree}
-use Rattle.flow_program.specs.Entry.{entry}
-use Rattle.flow_program.specs.NodeSets.{AreSetsOf}
-use Rattle.tree_rules.specs.Leaf.{multiplier}
-use Rattle.report_rules.specs.Clash.{material_lines, unit_lines}
+use Rattle.text_lines.specs.number_sets.Sets.{has, listed}
+use Rattle.text_lines.specs.problem_rules.Problem.{Problem, rate_of}
+use Rattle.cert_check.specs.pns_rules.Shape.{Shape, shape_of}
+use Rattle.cert_check.specs.pns_rules.Structure.{mats}
+use Rattle.cert_check.specs.pgraph.View.{node_of}
+use Rattle.cert_check.specs.pns_problem.Printing.{printed}
+use Rattle.cert_check.specs.flow_rules.Net.{net_of, beside}
+use Rattle.cert_check.specs.flow_rules.Relaxed.{stays, units, rows}
+use Rattle.cert_check.specs.flow_rules.Steps.{AreInRange}
+use Rattle.cert_check.specs.flow_rules.BoundSteps.{rows_at, reduced_steps}
+use Rattle.cert_check.proofs.flow_rules.Cited.{Agree}
+use Rattle.cert_check.specs.flow_program.Entry.{entry}
+use Rattle.cert_check.specs.flow_program.NodeSets.{AreSetsOf}
+use Rattle.cert_check.specs.tree_rules.Leaf.{multiplier}
+use Rattle.report_amounts.specs.report_rules.Clash.{material_lines, unit_lines}
 use Rattle.report_tables.proofs.Appended.{both_printed}
 use Rattle.report_tables.proofs.SameLines.{same_lines}
 use Rattle.report_tables.proofs.Lefts.{formed_by}

@@ -4,8 +4,8 @@ use Rattle.std.specs.Int.{w64, w128}
 use Rattle.std.specs.Ordering.{int_eq}
 use Rattle.std.proofs.lemmas.Int.{to_z-of_z}
 use Rattle.std.proofs.lemmas.Result.{on_ok_weaker}
-use Rattle.problem_rules.specs.Problem.{Material, material_at, is_raw_material}
-use Rattle.report_rules.specs.Clash.{bound_line, uses_lower}
+use Rattle.text_lines.specs.problem_rules.Problem.{Material, material_at, is_raw_material}
+use Rattle.report_amounts.specs.report_rules.Clash.{bound_line, uses_lower}
 use Rattle.report_tables.proofs.OneBound.{no_material_line, lower_line, upper_line}
 use Rattle.report_tables.proofs.Appended.{nothing_printed, same_printed}
 use Rattle.report_tables.proofs.bounds.push_material.Goals as goal

@@ -3,17 +3,16 @@ use Rattle.std.proofs.Common.{get_or, SFits, rules}
 use Rattle.std.specs.Int.{w64, w128}
 use Rattle.std.proofs.lemmas.Int.{to_z-of_z}
 use Rattle.std.specs.Prelude.{flat_map}
-use Rattle.number_sets.specs.Sets.{has, IsSet}
-use Rattle.pns_rules.specs.Structure.{mats}
-use Rattle.pgraph.specs.View.{node_of}
-use Rattle.pns_problem.specs.Printing.{printed}
-use Rattle.flow_rules.specs.Net.{net_of}
-use Rattle.flow_rules.specs.Relaxed.{stays, rows, lower_at}
-use Rattle.flow_program.specs.Entry.{entry}
-use Rattle.flow_program.proofs.NodeSetLemmas.{listed_had}
-use Rattle.flow_program.proofs.WalkLemmas.{next_of}
-use Rattle.report_amounts.proofs.Walk.{all_within, next_within, rest_within}
-use Rattle.report_rules.specs.Clash.{material_here, material_lines}
+use Rattle.text_lines.specs.number_sets.Sets.{has, IsSet}
+use Rattle.cert_check.specs.pns_rules.Structure.{mats}
+use Rattle.cert_check.specs.pgraph.View.{node_of}
+use Rattle.cert_check.specs.pns_problem.Printing.{printed}
+use Rattle.cert_check.specs.flow_rules.Net.{net_of}
+use Rattle.cert_check.specs.flow_rules.Relaxed.{stays, rows, lower_at}
+use Rattle.cert_check.specs.flow_program.Entry.{entry}
+use Rattle.cert_check.proofs.flow_program.Cited.{listed_had, next_of}
+use Rattle.report_amounts.proofs.Cited.{all_within, next_within, rest_within}
+use Rattle.report_amounts.specs.report_rules.Clash.{material_here, material_lines}
 use Rattle.report_tables.proofs.Appended.{next_lines, last_lines}
 use Rattle.report_tables.proofs.bounds.push_materials.Goals as goal
 

@@ -5,8 +5,8 @@ use Rattle.std.specs.Ordering.{int_eq}
 use Rattle.std.specs.Int.{w64, w128}
 use Rattle.std.proofs.lemmas.Int.{to_z-of_z}
 use Rattle.std.proofs.lemmas.Result.{on_ok_weaker}
-use Rattle.problem_rules.specs.Problem.{OperatingUnit, unit_at}
-use Rattle.report_rules.specs.Clash.{bound_line}
+use Rattle.text_lines.specs.problem_rules.Problem.{OperatingUnit, unit_at}
+use Rattle.report_amounts.specs.report_rules.Clash.{bound_line}
 use Rattle.report_tables.proofs.OneBound.{most_line, least_line, no_unit_line}
 use Rattle.report_tables.proofs.Appended.{nothing_printed, same_printed}
 use Rattle.report_tables.proofs.bounds.push_unit.Goals as goal

@@ -3,19 +3,19 @@ use Rattle.std.proofs.Common.{ℕ, SFits, rules, arith}
 use Rattle.std.specs.Prelude.{flat_map}
 use Rattle.std.specs.Int.{w128}
 use Rattle.std.proofs.lemmas.Int.{to_z-of_z}
-use Rattle.number_sets.specs.Sets.{has}
-use Rattle.problem_rules.specs.Problem.{Problem, rate_of}
-use Rattle.pns_rules.specs.Shape.{shape_of}
-use Rattle.pgraph.specs.View.{node_of}
-use Rattle.pns_problem.specs.Printing.{printed}
-use Rattle.flow_rules.specs.Net.{net_of}
-use Rattle.flow_rules.specs.Relaxed.{stays, unit_low, reduced_cost}
-use Rattle.flow_rules.specs.Steps.{AreInRange}
-use Rattle.flow_rules.specs.BoundSteps.{rows_at, reduced_steps}
-use Rattle.flow_program.specs.Entry.{entry}
-use Rattle.flow_program.proofs.NodeSetLemmas.{listed_had}
-use Rattle.report_amounts.proofs.Walk.{all_within, next_within, rest_within}
-use Rattle.report_rules.specs.Clash.{unit_here, unit_lines}
+use Rattle.text_lines.specs.number_sets.Sets.{has}
+use Rattle.text_lines.specs.problem_rules.Problem.{Problem, rate_of}
+use Rattle.cert_check.specs.pns_rules.Shape.{shape_of}
+use Rattle.cert_check.specs.pgraph.View.{node_of}
+use Rattle.cert_check.specs.pns_problem.Printing.{printed}
+use Rattle.cert_check.specs.flow_rules.Net.{net_of}
+use Rattle.cert_check.specs.flow_rules.Relaxed.{stays, unit_low, reduced_cost}
+use Rattle.cert_check.specs.flow_rules.Steps.{AreInRange}
+use Rattle.cert_check.specs.flow_rules.BoundSteps.{rows_at, reduced_steps}
+use Rattle.cert_check.specs.flow_program.Entry.{entry}
+use Rattle.cert_check.proofs.flow_program.Cited.{listed_had}
+use Rattle.report_amounts.proofs.Cited.{all_within, next_within, rest_within}
+use Rattle.report_amounts.specs.report_rules.Clash.{unit_here, unit_lines}
 use Rattle.report_tables.proofs.Appended.{next_lines, last_lines}
 use Rattle.report_tables.proofs.Lefts.{rates_in_range, left_is}
 use Rattle.report_tables.proofs.bounds.push_units.Goals as goal

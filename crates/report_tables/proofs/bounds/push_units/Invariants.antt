@@ -1,12 +1,12 @@
 use Rattle.std.proofs.Common.{◌≡◌, ◌++◌, string_bytes, pos}
 use Rattle.std.specs.Prelude.{flat_map}
-use Rattle.number_sets.specs.Sets.{has, IsWithin}
-use Rattle.pgraph.specs.View.{node_of}
-use Rattle.pns_problem.specs.Printing.{printed}
-use Rattle.flow_rules.specs.Net.{net_of}
-use Rattle.flow_rules.specs.Relaxed.{unit_low, reduced_cost}
-use Rattle.flow_program.specs.Entry.{entry}
-use Rattle.report_rules.specs.Clash.{unit_here, unit_lines}
+use Rattle.text_lines.specs.number_sets.Sets.{has, IsWithin}
+use Rattle.cert_check.specs.pgraph.View.{node_of}
+use Rattle.cert_check.specs.pns_problem.Printing.{printed}
+use Rattle.cert_check.specs.flow_rules.Net.{net_of}
+use Rattle.cert_check.specs.flow_rules.Relaxed.{unit_low, reduced_cost}
+use Rattle.cert_check.specs.flow_program.Entry.{entry}
+use Rattle.report_amounts.specs.report_rules.Clash.{unit_here, unit_lines}
 use Rattle.report_tables.proofs.bounds.push_units.Given as goal
 
 -- the text so far and the lines that are left give the whole text

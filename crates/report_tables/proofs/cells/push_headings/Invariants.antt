@@ -1,5 +1,5 @@
 use Rattle.std.proofs.Common.{◌≡◌, ◌++◌, drop, map}
-use Rattle.report_rules.specs.Measures.{with_measure}
+use Rattle.report_amounts.specs.report_rules.Measures.{with_measure}
 use Rattle.report_tables.proofs.cells.push_headings.Given as goal
 
 -- the row so far and the words that are left give the whole row

@@ -1,5 +1,5 @@
 use Rattle.std.proofs.Common.{◌≡◌, ◌++◌, drop, map}
-use Rattle.report_rules.specs.Report.{number_cell}
+use Rattle.report_amounts.specs.report_rules.Report.{number_cell}
 use Rattle.report_tables.proofs.cells.push_numbers.Given as goal
 
 -- the row so far and the numbers that are left give the whole row

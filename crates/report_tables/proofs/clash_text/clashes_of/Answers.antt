@@ -1,10 +1,10 @@
 use Rattle.std.proofs.Common.{◌≡◌, ◌∷◌, [], ◌∙◌, ap, sym, subst, List, true, false, None}
 use Rattle.std.specs.List.{AllByRecursion}
-use Rattle.tree_rules.specs.Accepted.{first_node}
-use Rattle.report_rules.specs.Clash.{RefutedAt}
+use Rattle.cert_check.specs.tree_rules.Accepted.{first_node}
+use Rattle.report_amounts.specs.report_rules.Clash.{RefutedAt}
 use Rattle.report_tables.specs.View.{leaves_of, IsGood}
 use Rattle.cert_check.specs.declared.open_leaf.OpenLeaf.{OpenLeaf}
-use Rattle.tree_rules.specs.Accepted.{Tree}
+use Rattle.cert_check.specs.tree_rules.Accepted.{Tree}
 use Rattle.report_tables.proofs.LeafLists.{all_good}
 use Rattle.report_tables.proofs.clash_text.clashes_of.Goals as goal
 

@@ -1,8 +1,8 @@
 use Rattle.std.proofs.Common.{◌++◌, ◌∙◌, ap, sym, ℕ, List, length, string_bytes}
 use Rattle.std.proofs.Common.{arith, append-nil}
 use Rattle.std.specs.Prelude.{flat_map}
-use Rattle.pns_problem.specs.Printing.{printed}
-use Rattle.report_rules.specs.Clash.{leaf_lines, count_line}
+use Rattle.cert_check.specs.pns_problem.Printing.{printed}
+use Rattle.report_amounts.specs.report_rules.Clash.{leaf_lines, count_line}
 use Rattle.report_tables.specs.View.{leaves_of}
 use Rattle.report_tables.proofs.LeafLines.{empty_leaves, some_leaf, clashes_are, good_shown}
 use Rattle.report_tables.proofs.Appended.{line_and_more}

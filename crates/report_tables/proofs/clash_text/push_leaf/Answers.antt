@@ -1,11 +1,11 @@
 use Rattle.std.proofs.Common.{◌++◌, ◌∙◌, ap, ℕ, List, string_bytes, arith, ℤ, subst, sym}
 use Rattle.std.specs.Prelude.{slice_get}
-use Rattle.pns_problem.specs.Printing.{printed}
-use Rattle.tree_rules.specs.Leaf.{IsRefuted}
+use Rattle.cert_check.specs.pns_problem.Printing.{printed}
+use Rattle.cert_check.specs.tree_rules.Leaf.{IsRefuted}
 use Rattle.report_tables.specs.Opened.{ys_in}
-use Rattle.pgraph.specs.View.{node_of}
-use Rattle.tree_rules.specs.Leaf.{multiplier}
-use Rattle.report_rules.specs.Clash.{node_line, material_lines, unit_lines}
+use Rattle.cert_check.specs.pgraph.View.{node_of}
+use Rattle.cert_check.specs.tree_rules.Leaf.{multiplier}
+use Rattle.report_amounts.specs.report_rules.Clash.{node_line, material_lines, unit_lines}
 use Rattle.report_tables.proofs.Appended.{gap_and_more}
 use Rattle.report_tables.proofs.clash_text.push_leaf.Goals as goal
 

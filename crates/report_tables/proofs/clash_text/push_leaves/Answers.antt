@@ -3,8 +3,8 @@ use Rattle.std.proofs.Common.{string_bytes, arith}
 use Rattle.std.specs.Prelude.{flat_map}
 use Rattle.std.specs.List.{AllByRecursion}
 use Rattle.std.proofs.lemmas.List.{drop_all}
-use Rattle.pns_problem.specs.Printing.{printed}
-use Rattle.report_rules.specs.Clash.{RefutedAt, leaf_lines}
+use Rattle.cert_check.specs.pns_problem.Printing.{printed}
+use Rattle.report_amounts.specs.report_rules.Clash.{RefutedAt, leaf_lines}
 use Rattle.report_tables.specs.View.{leaf_of, leaves_of, IsGood}
 use Rattle.cert_check.specs.declared.open_leaf.OpenLeaf.{OpenLeaf}
 use Rattle.report_tables.proofs.LeafLines.{leaf_ahead}

@@ -1,8 +1,8 @@
 use Rattle.std.proofs.Common.{◌≡◌, ◌++◌, drop, string_bytes}
 use Rattle.std.specs.Prelude.{flat_map}
 use Rattle.std.specs.List.{AllByRecursion}
-use Rattle.pns_problem.specs.Printing.{printed}
-use Rattle.report_rules.specs.Clash.{leaf_lines}
+use Rattle.cert_check.specs.pns_problem.Printing.{printed}
+use Rattle.report_amounts.specs.report_rules.Clash.{leaf_lines}
 use Rattle.report_tables.specs.View.{leaves_of, IsGood}
 use Rattle.report_tables.proofs.clash_text.push_leaves.Given as goal
 

@@ -1,9 +1,9 @@
 use Rattle.std.proofs.Common.{◌≡◌, ◌++◌, ◌∙◌, ap, ℕ, length, string_bytes}
 use Rattle.std.specs.Prelude.{nat_lt}
-use Rattle.number_sets.specs.Sets.{has, listed}
-use Rattle.pns_rules.specs.Shape.{Shape}
-use Rattle.report_rules.specs.Report.{names_or_none}
-use Rattle.report_rules.specs.Clash.{names_of}
+use Rattle.text_lines.specs.number_sets.Sets.{has, listed}
+use Rattle.cert_check.specs.pns_rules.Shape.{Shape}
+use Rattle.report_amounts.specs.report_rules.Report.{names_or_none}
+use Rattle.report_amounts.specs.report_rules.Clash.{names_of}
 use Rattle.report_tables.proofs.Pieces.{after}
 use Rattle.report_tables.proofs.NamedUnits.{named_are}
 use Rattle.report_tables.proofs.clash_text.push_names.Goals as goal

@@ -1,7 +1,7 @@
 use Rattle.std.proofs.Common.{◌++◌, ◌∙◌, ap, ℕ, List, codes, string_bytes, append_assoc}
 use Rattle.std.specs.Prelude.{decimal}
-use Rattle.number_sets.specs.Sets.{has}
-use Rattle.report_rules.specs.Clash.{names_of}
+use Rattle.text_lines.specs.number_sets.Sets.{has}
+use Rattle.report_amounts.specs.report_rules.Clash.{names_of}
 use Rattle.report_tables.proofs.Pieces.{after}
 use Rattle.report_tables.proofs.clash_text.push_node.Goals as goal
 

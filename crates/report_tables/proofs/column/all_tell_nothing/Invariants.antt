@@ -1,5 +1,5 @@
 use Rattle.std.proofs.Common.{◌≡◌, drop}
-use Rattle.report_rules.specs.Aligned.{all_tell_nothing}
+use Rattle.report_amounts.specs.report_rules.Aligned.{all_tell_nothing}
 use Rattle.report_tables.proofs.column.all_tell_nothing.Given as goal
 
 abbrev pub invariant-rows : goal.invariant-rows

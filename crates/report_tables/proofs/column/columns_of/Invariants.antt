@@ -1,5 +1,5 @@
 use Rattle.std.proofs.Common.{◌≡◌, ◌++◌, drop}
-use Rattle.report_rules.specs.Aligned.{columns_from}
+use Rattle.report_amounts.specs.report_rules.Aligned.{columns_from}
 use Rattle.report_tables.proofs.column.columns_of.Given as goal
 
 -- the columns so far and those that are left give all of them

@@ -1,5 +1,5 @@
 use Rattle.std.proofs.Common.{◌≡◌, drop}
-use Rattle.report_rules.specs.Aligned.{widest}
+use Rattle.report_amounts.specs.report_rules.Aligned.{widest}
 use Rattle.report_tables.proofs.column.widest.Given as goal
 
 abbrev pub invariant-rows : goal.invariant-rows

@@ -1,5 +1,5 @@
 use Rattle.std.proofs.Common.{◌∙◌, ap, ℕ, List, length, nat_lt}
-use Rattle.number_sets.specs.Sets.{minus}
+use Rattle.text_lines.specs.number_sets.Sets.{minus}
 use Rattle.report_tables.proofs.LeftOut.{left_out_is}
 use Rattle.report_tables.proofs.foot.left_out.Goals as goal
 

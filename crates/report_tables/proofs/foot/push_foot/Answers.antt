@@ -1,5 +1,5 @@
 use Rattle.std.proofs.Common.{◌++◌, ◌∙◌, ap, ℕ, List, string_bytes, arith}
-use Rattle.report_rules.specs.Report.{once_line, left_out_line}
+use Rattle.report_amounts.specs.report_rules.Report.{once_line, left_out_line}
 use Rattle.report_tables.proofs.Pieces.{two_lines}
 use Rattle.report_tables.proofs.foot.push_foot.Goals as goal
 

@@ -1,7 +1,7 @@
 use Rattle.std.proofs.Common.{◌∙◌, ◌++◌, ◌∷◌, [], ap, ℕ, List, string_bytes, arith}
 use Rattle.std.specs.Prelude.{flat_map}
-use Rattle.problem_rules.specs.Problem.{unit_at}
-use Rattle.report_rules.specs.Report.{name_behind}
+use Rattle.text_lines.specs.problem_rules.Problem.{unit_at}
+use Rattle.report_amounts.specs.report_rules.Report.{name_behind}
 use Rattle.report_tables.proofs.Pieces.{after, next_piece}
 use Rattle.report_tables.proofs.foot.push_names.Goals as goal
 

@@ -1,6 +1,6 @@
 use Rattle.std.proofs.Common.{◌≡◌, ◌++◌, string_bytes}
 use Rattle.std.specs.Prelude.{flat_map}
-use Rattle.report_rules.specs.Report.{name_behind}
+use Rattle.report_amounts.specs.report_rules.Report.{name_behind}
 use Rattle.report_tables.proofs.foot.push_names.Given as goal
 
 -- the text so far and the names that are left give the whole text

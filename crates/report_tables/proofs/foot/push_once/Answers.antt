@@ -1,8 +1,8 @@
 use Rattle.std.proofs.Common.{◌++◌, ◌∙◌, ap, codes, string_bytes}
-use Rattle.report_rules.specs.Number.{Number}
-use Rattle.report_rules.specs.declared.amount.UnitAmount.TheVariants.{Once}
-use Rattle.report_rules.specs.Amounts.{unit_sum}
-use Rattle.report_rules.specs.Report.{number_cell}
+use Rattle.report_amounts.specs.report_rules.Number.{Number}
+use Rattle.report_amounts.specs.report_rules.declared.amount.UnitAmount.TheVariants.{Once}
+use Rattle.report_amounts.specs.report_rules.Amounts.{unit_sum}
+use Rattle.report_amounts.specs.report_rules.Report.{number_cell}
 use Rattle.report_tables.proofs.Pieces.{after}
 use Rattle.report_tables.proofs.foot.push_once.Goals as goal
 

@@ -1,10 +1,10 @@
 use Rattle.std.proofs.Common.{◌≡◌, ◌∙◌, ◌∷◌, [], ◌<◌, ◌^◌, ℕ, ap, sym, subst, length, map}
 use Rattle.std.proofs.lemmas.List.{length-map}
-use Rattle.number_sets.specs.Sets.{has}
-use Rattle.pns_rules.specs.Shape.{shape_of}
-use Rattle.tree_rules.specs.Accepted.{Tree, first_node}
-use Rattle.tree_text_rules.specs.OpenLeaves.{open_leaves}
-use Rattle.pgraph.specs.View.{node_of}
+use Rattle.text_lines.specs.number_sets.Sets.{has}
+use Rattle.cert_check.specs.pns_rules.Shape.{shape_of}
+use Rattle.cert_check.specs.tree_rules.Accepted.{Tree, first_node}
+use Rattle.cert_check.specs.tree_text_rules.OpenLeaves.{open_leaves}
+use Rattle.cert_check.specs.pgraph.View.{node_of}
 use Rattle.report_tables.specs.Opened.{opened_node}
 use Rattle.report_tables.proofs.leaves.all_leaves.Goals as goal
 

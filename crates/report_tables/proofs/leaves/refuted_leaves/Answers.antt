@@ -1,9 +1,9 @@
 use Rattle.std.proofs.Common.{◌≡◌, ◌∙◌, ap, sym, refl, List, ◌∷◌, [], map}
 use Rattle.std.specs.Prelude.{flat_map}
 use Rattle.std.proofs.lemmas.Result.{IfOk-weaker}
-use Rattle.pns_rules.specs.Shape.{shape_of}
-use Rattle.tree_rules.specs.Accepted.{Tree, first_node}
-use Rattle.tree_text_rules.specs.OpenLeaves.{open_leaves}
+use Rattle.cert_check.specs.pns_rules.Shape.{shape_of}
+use Rattle.cert_check.specs.tree_rules.Accepted.{Tree, first_node}
+use Rattle.cert_check.specs.tree_text_rules.OpenLeaves.{open_leaves}
 use Rattle.cert_check.specs.declared.open_leaf.OpenLeaf.{OpenLeaf}
 use Rattle.cert_check.specs.OpenLeaves.{leaves_at}
 use Rattle.report_tables.specs.Opened.{opened_node, refuted_at}

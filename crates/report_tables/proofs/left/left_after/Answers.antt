@@ -1,12 +1,12 @@
 use Rattle.std.proofs.Common.{◌≡◌, ◌∙◌, SFits, rules, to_z, get_or, pos, ap, sym, subst, ℕ, List}
 use Rattle.std.specs.Int.{w64, w128}
 use Rattle.std.proofs.lemmas.Int.{to_z-of_z}
-use Rattle.number_sets.specs.Sets.{IsSet}
-use Rattle.flow_rules.specs.Steps.{AreInRange}
-use Rattle.flow_rules.specs.BoundSteps.{reduced_steps}
-use Rattle.flow_program.specs.Columns.{left_of}
-use Rattle.flow_program.specs.Entry.{entry}
-use Rattle.flow_program.proofs.WalkLemmas.{next_of}
+use Rattle.text_lines.specs.number_sets.Sets.{IsSet}
+use Rattle.cert_check.specs.flow_rules.Steps.{AreInRange}
+use Rattle.cert_check.specs.flow_rules.BoundSteps.{reduced_steps}
+use Rattle.cert_check.specs.flow_program.Columns.{left_of}
+use Rattle.cert_check.specs.flow_program.Entry.{entry}
+use Rattle.cert_check.proofs.flow_program.Cited.{next_of}
 use Rattle.report_tables.proofs.Lefts.{product_in_range, difference_in_range, rest_in_range}
 use Rattle.report_tables.proofs.Lefts.{rest_left, all_left}
 use Rattle.report_tables.proofs.left.left_after.Goals as goal

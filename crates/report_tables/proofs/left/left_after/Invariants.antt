@@ -1,9 +1,9 @@
 use Rattle.std.proofs.Common.{◌≡◌, pos}
-use Rattle.number_sets.specs.Sets.{IsSet}
-use Rattle.flow_rules.specs.Steps.{AreInRange}
-use Rattle.flow_rules.specs.BoundSteps.{reduced_steps}
-use Rattle.flow_program.specs.Columns.{left_of}
-use Rattle.flow_program.specs.Entry.{entry}
+use Rattle.text_lines.specs.number_sets.Sets.{IsSet}
+use Rattle.cert_check.specs.flow_rules.Steps.{AreInRange}
+use Rattle.cert_check.specs.flow_rules.BoundSteps.{reduced_steps}
+use Rattle.cert_check.specs.flow_program.Columns.{left_of}
+use Rattle.cert_check.specs.flow_program.Entry.{entry}
 use Rattle.report_tables.proofs.left.left_after.Given as goal
 
 -- what is left is that of all rows, and no step that is left is out of range

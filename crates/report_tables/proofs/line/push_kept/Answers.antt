@@ -1,5 +1,5 @@
 use Rattle.std.proofs.Common.{◌++◌, ◌∷◌, [], ◌∙◌, ap, ℕ, List, string_bytes}
-use Rattle.report_rules.specs.Aligned.{before, behind, shown, gap_left}
+use Rattle.report_amounts.specs.report_rules.Aligned.{before, behind, shown, gap_left}
 use Rattle.report_tables.proofs.Pieces.{after}
 use Rattle.report_tables.proofs.line.push_kept.Goals as goal
 

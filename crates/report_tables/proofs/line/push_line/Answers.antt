@@ -1,5 +1,5 @@
 use Rattle.std.proofs.Common.{◌++◌, ◌∙◌, [], ap, List, ℕ, string_bytes}
-use Rattle.report_rules.specs.Aligned.{line_text, cell_text, gap_behind}
+use Rattle.report_amounts.specs.report_rules.Aligned.{line_text, cell_text, gap_behind}
 use Rattle.report_tables.proofs.Walk.{cell_more}
 use Rattle.report_tables.proofs.line.push_line.Goals as goal
 

@@ -1,5 +1,5 @@
 use Rattle.std.proofs.Common.{◌≡◌, ◌++◌, [], drop, string_bytes}
-use Rattle.report_rules.specs.Aligned.{line_text}
+use Rattle.report_amounts.specs.report_rules.Aligned.{line_text}
 use Rattle.report_tables.proofs.line.push_line.Given as goal
 
 -- the line so far and the cells that are left give the whole line

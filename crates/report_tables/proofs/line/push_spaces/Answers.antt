@@ -1,5 +1,5 @@
 use Rattle.std.proofs.Common.{◌++◌, ◌∙◌, ap, List, ℕ, arith, string_bytes}
-use Rattle.report_rules.specs.Aligned.{spaces}
+use Rattle.report_amounts.specs.report_rules.Aligned.{spaces}
 use Rattle.report_tables.proofs.Walk.{space_more}
 use Rattle.report_tables.proofs.line.push_spaces.Goals as goal
 

@@ -1,5 +1,5 @@
 use Rattle.std.proofs.Common.{◌≡◌, ◌++◌, string_bytes}
-use Rattle.report_rules.specs.Aligned.{spaces}
+use Rattle.report_amounts.specs.report_rules.Aligned.{spaces}
 use Rattle.report_tables.proofs.line.push_spaces.Given as goal
 
 -- the text so far and the spaces that are left give the whole text

@@ -1,8 +1,8 @@
 use Rattle.std.proofs.Common.{◌++◌, ◌∷◌, [], ◌∙◌, ap, codes}
-use Rattle.report_rules.specs.Number.{Number}
-use Rattle.report_rules.specs.declared.cost_part.CostPart.TheVariants.{All}
-use Rattle.report_rules.specs.Amounts.{cost_sum}
-use Rattle.report_rules.specs.Report.{number_cell}
+use Rattle.report_amounts.specs.report_rules.Number.{Number}
+use Rattle.report_amounts.specs.report_rules.declared.cost_part.CostPart.TheVariants.{All}
+use Rattle.report_amounts.specs.report_rules.Amounts.{cost_sum}
+use Rattle.report_amounts.specs.report_rules.Report.{number_cell}
 use Rattle.report_tables.proofs.Pieces.{after, row_of}
 use Rattle.report_tables.proofs.materials.all_materials_row.Goals as goal
 

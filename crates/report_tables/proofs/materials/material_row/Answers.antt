@@ -1,11 +1,11 @@
 use Rattle.std.proofs.Common.{◌++◌, ◌∷◌, [], ◌∙◌, ap, ℕ, List}
-use Rattle.problem_rules.specs.Problem.{material_at}
-use Rattle.text_rules.specs.Canonical.{kind_word}
-use Rattle.report_rules.specs.Number.{Number}
-use Rattle.report_rules.specs.declared.amount.UnitAmount.TheVariants.{Made, Used}
-use Rattle.report_rules.specs.Amounts.{unit_sum, net, price, cost}
-use Rattle.report_rules.specs.Marginal.{marginal}
-use Rattle.report_rules.specs.Report.{number_cell, material_limit, marginal_cell}
+use Rattle.text_lines.specs.problem_rules.Problem.{material_at}
+use Rattle.text_lines.specs.text_rules.Canonical.{kind_word}
+use Rattle.report_amounts.specs.report_rules.Number.{Number}
+use Rattle.report_amounts.specs.report_rules.declared.amount.UnitAmount.TheVariants.{Made, Used}
+use Rattle.report_amounts.specs.report_rules.Amounts.{unit_sum, net, price, cost}
+use Rattle.report_amounts.specs.report_rules.Marginal.{marginal}
+use Rattle.report_amounts.specs.report_rules.Report.{number_cell, material_limit, marginal_cell}
 use Rattle.report_tables.proofs.Pieces.{after_six, row_of}
 use Rattle.report_tables.proofs.materials.material_row.Goals as goal
 

@@ -1,11 +1,10 @@
 use Rattle.std.proofs.Common.{◌≡◌, ◌<◌, ◌∙◌, ◌++◌, ◌∷◌, [], sym, ap, subst, true, length, map}
-use Rattle.number_sets.specs.Sets.{has}
-use Rattle.problem_rules.specs.Problem.{Problem}
-use Rattle.flow_rules.specs.Net.{net_of, materials_of}
-use Rattle.tree_rules.specs.Claim.{IsFeasible}
-use Rattle.report_rules.specs.Report.{material_row}
-use Rattle.report_amounts.proofs.Walk.{all_within, next_within, rest_within}
-use Rattle.report_amounts.proofs.Known.{material_known}
+use Rattle.text_lines.specs.number_sets.Sets.{has}
+use Rattle.text_lines.specs.problem_rules.Problem.{Problem}
+use Rattle.cert_check.specs.flow_rules.Net.{net_of, materials_of}
+use Rattle.cert_check.specs.tree_rules.Claim.{IsFeasible}
+use Rattle.report_amounts.specs.report_rules.Report.{material_row}
+use Rattle.report_amounts.proofs.Cited.{all_within, next_within, rest_within, material_known}
 use Rattle.report_tables.proofs.Pieces.{next_row, last_row}
 use Rattle.report_tables.proofs.materials.material_rows.Goals as goal
 

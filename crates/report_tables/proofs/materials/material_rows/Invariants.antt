@@ -1,7 +1,7 @@
 use Rattle.std.proofs.Common.{◌≡◌, ◌++◌, map}
-use Rattle.number_sets.specs.Sets.{has, IsWithin}
-use Rattle.flow_rules.specs.Net.{net_of, materials_of}
-use Rattle.report_rules.specs.Report.{material_row}
+use Rattle.text_lines.specs.number_sets.Sets.{has, IsWithin}
+use Rattle.cert_check.specs.flow_rules.Net.{net_of, materials_of}
+use Rattle.report_amounts.specs.report_rules.Report.{material_row}
 use Rattle.report_tables.proofs.materials.material_rows.Given as goal
 
 -- the table so far and the rows that are left give the whole table

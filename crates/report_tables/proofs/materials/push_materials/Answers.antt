@@ -1,6 +1,6 @@
 use Rattle.std.proofs.Common.{◌≡◌, ◌++◌, ◌∙◌, string_bytes}
-use Rattle.pns_problem.specs.Printing.{printed}
-use Rattle.report_rules.specs.Report.{table_and_gap, material_sorts, material_rows}
+use Rattle.cert_check.specs.pns_problem.Printing.{printed}
+use Rattle.report_amounts.specs.report_rules.Report.{table_and_gap, material_sorts, material_rows}
 use Rattle.report_tables.proofs.materials.push_materials.Goals as goal
 
 pub returns : goal.returns

@@ -1,6 +1,6 @@
 use Rattle.std.proofs.Common.{◌≡◌, length}
-use Rattle.text_rules.specs.declared.Section.TheVariants.{Preamble}
-use Rattle.report_rules.specs.Measures.{measure_among}
+use Rattle.text_lines.specs.text_rules.declared.Section.TheVariants.{Preamble}
+use Rattle.report_amounts.specs.report_rules.Measures.{measure_among}
 use Rattle.report_tables.proofs.measures.measure_among.Given as goal
 
 abbrev pub invariant-looking : goal.invariant-looking

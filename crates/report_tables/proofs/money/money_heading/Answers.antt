@@ -1,6 +1,6 @@
 use Rattle.std.proofs.Common.{◌≡◌, ◌++◌, ◌∷◌, [], ◌∙◌, ap, ℕ, List, Option, codes, string_bytes}
-use Rattle.report_rules.specs.Measures.{with_measure, time_words}
-use Rattle.report_rules.specs.Report.{money_heading}
+use Rattle.report_amounts.specs.report_rules.Measures.{with_measure, time_words}
+use Rattle.report_amounts.specs.report_rules.Report.{money_heading}
 use Rattle.report_tables.proofs.Pieces.{after, row_of}
 use Rattle.report_tables.proofs.money.money_heading.Goals as goal
 

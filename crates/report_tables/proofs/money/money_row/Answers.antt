@@ -1,5 +1,5 @@
 use Rattle.std.proofs.Common.{◌∷◌, []}
-use Rattle.report_rules.specs.Report.{number_cell}
+use Rattle.report_amounts.specs.report_rules.Report.{number_cell}
 use Rattle.report_tables.proofs.Pieces.{row_of}
 use Rattle.report_tables.proofs.money.money_row.Goals as goal
 

@@ -1,10 +1,12 @@
 use Rattle.std.proofs.Common.{◌<◌, ◌++◌, ◌∷◌, [], ◌∙◌, sym, ap, subst, length, codes, ℕ, List}
-use Rattle.problem_rules.specs.Problem.{Problem}
-use Rattle.report_rules.specs.declared.amount.UnitAmount.TheVariants.{Fixed, Proportional}
-use Rattle.report_rules.specs.declared.amount.UnitAmount.TheVariants.{Investment}
-use Rattle.report_rules.specs.declared.cost_part.CostPart.TheVariants.{Costs, Incomes}
-use Rattle.report_rules.specs.Amounts.{unit_sum, cost_sum}
-use Rattle.report_rules.specs.Report.{money_row, total_row, money_rows}
+use Rattle.text_lines.specs.problem_rules.Problem.{Problem}
+use Rattle.report_amounts.specs.report_rules.declared.amount.UnitAmount.TheVariants.{Fixed}
+use Rattle.report_amounts.specs.report_rules.declared.amount.UnitAmount.TheVariants.{Proportional}
+use Rattle.report_amounts.specs.report_rules.declared.amount.UnitAmount.TheVariants.{Investment}
+use Rattle.report_amounts.specs.report_rules.declared.cost_part.CostPart.TheVariants.{Costs}
+use Rattle.report_amounts.specs.report_rules.declared.cost_part.CostPart.TheVariants.{Incomes}
+use Rattle.report_amounts.specs.report_rules.Amounts.{unit_sum, cost_sum}
+use Rattle.report_amounts.specs.report_rules.Report.{money_row, total_row, money_rows}
 use Rattle.report_tables.proofs.Pieces.{after_six, row_of}
 use Rattle.report_tables.proofs.money.money_rows.Goals as goal
 

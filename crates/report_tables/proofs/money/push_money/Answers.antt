@@ -1,6 +1,6 @@
 use Rattle.std.proofs.Common.{◌≡◌, ◌++◌, ◌∙◌, string_bytes}
-use Rattle.pns_problem.specs.Printing.{printed}
-use Rattle.report_rules.specs.Report.{table_and_gap, money_sorts, money_rows}
+use Rattle.cert_check.specs.pns_problem.Printing.{printed}
+use Rattle.report_amounts.specs.report_rules.Report.{table_and_gap, money_sorts, money_rows}
 use Rattle.report_tables.proofs.money.push_money.Goals as goal
 
 pub returns : goal.returns

@@ -1,6 +1,6 @@
 use Rattle.std.proofs.Common.{◌∙◌, ap, sym, subst, map}
-use Rattle.tree_rules.specs.Tree.{IsTree}
-use Rattle.tree_rules.specs.Accepted.{Tree}
+use Rattle.cert_check.specs.tree_rules.Tree.{IsTree}
+use Rattle.cert_check.specs.tree_rules.Accepted.{Tree}
 use Rattle.report_tables.specs.Opened.{opened_node}
 use Rattle.report_tables.proofs.LeafLists.{tree_opened}
 use Rattle.report_tables.proofs.opened.opened.Goals as goal

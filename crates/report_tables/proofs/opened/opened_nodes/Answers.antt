@@ -1,7 +1,7 @@
 use Rattle.std.proofs.Common.{◌≤◌, ◌+◌, ◌∷◌, [], ◌++◌, ◌∙◌, ap, sym, map, drop, length, arith}
 use Rattle.std.proofs.lemmas.List.{drop_more, drop_all}
-use Rattle.tree_rules.specs.Tree.{TreeNode}
-use Rattle.tree_rules.specs.Leaf.{Leaf}
+use Rattle.cert_check.specs.tree_rules.Tree.{TreeNode}
+use Rattle.cert_check.specs.tree_rules.Leaf.{Leaf}
 use Rattle.report_tables.specs.Opened.{opened_node}
 use Rattle.report_tables.proofs.Pieces.{next_row, last_row}
 use Rattle.report_tables.proofs.opened.opened_nodes.Goals as goal

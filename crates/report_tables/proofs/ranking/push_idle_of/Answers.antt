@@ -1,5 +1,5 @@
 use Rattle.std.proofs.Common.{◌∙◌, sym, ap, ℕ, List, string_bytes}
-use Rattle.report_rules.specs.Ranked.{idle_names}
+use Rattle.report_amounts.specs.report_rules.Ranked.{idle_names}
 use Rattle.report_tables.proofs.ranking.push_idle_of.Goals as goal
 
 pub loop-u-preserved : goal.loop-u-preserved

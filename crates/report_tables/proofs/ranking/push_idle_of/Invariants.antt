@@ -1,5 +1,5 @@
 use Rattle.std.proofs.Common.{◌≡◌, string_bytes}
-use Rattle.report_rules.specs.Ranked.{idle_names}
+use Rattle.report_amounts.specs.report_rules.Ranked.{idle_names}
 use Rattle.report_tables.proofs.ranking.push_idle_of.Given as goal
 
 -- the text so far and the units that are left give the whole text

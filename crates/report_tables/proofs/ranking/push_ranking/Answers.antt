@@ -1,8 +1,8 @@
 use Rattle.std.proofs.Common.{◌≡◌, ◌++◌, ◌∙◌, ap, string_bytes}
-use Rattle.problem_rules.specs.Problem.{Problem}
-use Rattle.pns_problem.specs.Printing.{printed}
-use Rattle.report_rules.specs.Report.{table_and_gap}
-use Rattle.report_rules.specs.Ranked.{ranking_sorts, ranking_rows}
+use Rattle.text_lines.specs.problem_rules.Problem.{Problem}
+use Rattle.cert_check.specs.pns_problem.Printing.{printed}
+use Rattle.report_amounts.specs.report_rules.Report.{table_and_gap}
+use Rattle.report_amounts.specs.report_rules.Ranked.{ranking_sorts, ranking_rows}
 use Rattle.report_tables.proofs.ranking.push_ranking.Goals as goal
 
 pub returns : goal.returns

@@ -1,8 +1,9 @@
 use Rattle.std.proofs.Common.{◌++◌, ◌∷◌, [], ◌∙◌, ap, ℕ, List, decimal}
-use Rattle.report_rules.specs.Number.{Number}
-use Rattle.report_rules.specs.Report.{number_cell, total_cell}
-use Rattle.report_rules.specs.Ranked.{above_first, share_above_cell, change_cell, idle_cell}
-use Rattle.report_rules.specs.Ranked.{ranking_row}
+use Rattle.report_amounts.specs.report_rules.Number.{Number}
+use Rattle.report_amounts.specs.report_rules.Report.{number_cell, total_cell}
+use Rattle.report_amounts.specs.report_rules.Ranked.{above_first, share_above_cell, change_cell}
+use Rattle.report_amounts.specs.report_rules.Ranked.{idle_cell}
+use Rattle.report_amounts.specs.report_rules.Ranked.{ranking_row}
 use Rattle.report_tables.proofs.Pieces.{after_six, row_of}
 use Rattle.report_tables.proofs.ranking.ranking_row.Goals as goal
 

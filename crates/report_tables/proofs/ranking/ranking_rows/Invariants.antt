@@ -1,5 +1,5 @@
 use Rattle.std.proofs.Common.{◌≡◌, ◌+◌, ◌++◌, drop}
-use Rattle.report_rules.specs.Ranked.{ranking_rows}
+use Rattle.report_amounts.specs.report_rules.Ranked.{ranking_rows}
 use Rattle.report_tables.proofs.ranking.ranking_rows.Given as goal
 
 -- the rows so far and those of the networks that are left give all of them

@@ -1,6 +1,6 @@
 use Rattle.std.proofs.Common.{[], false, string_bytes}
-use Rattle.pns_problem.proofs.Printed.{AreLinesPrinted}
-use Rattle.report_rules.specs.Aligned.{line_text}
+use Rattle.cert_check.proofs.pns_problem.Cited.{AreLinesPrinted}
+use Rattle.report_amounts.specs.report_rules.Aligned.{line_text}
 use Rattle.report_tables.proofs.table.push_rows.Given as goal
 
 abbrev pub invariant-printing : goal.invariant-printing

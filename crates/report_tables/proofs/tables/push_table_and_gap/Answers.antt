@@ -1,6 +1,6 @@
 use Rattle.std.proofs.Common.{◌++◌, ◌∙◌, ap, ℕ, List, string_bytes, arith}
-use Rattle.report_rules.specs.Aligned.{table_lines}
-use Rattle.report_rules.specs.Report.{table_and_gap}
+use Rattle.report_amounts.specs.report_rules.Aligned.{table_lines}
+use Rattle.report_amounts.specs.report_rules.Report.{table_and_gap}
 use Rattle.report_tables.proofs.Pieces.{with_empty_line}
 use Rattle.report_tables.proofs.tables.push_table_and_gap.Goals as goal
 

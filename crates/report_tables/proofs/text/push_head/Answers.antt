@@ -1,6 +1,6 @@
 use Rattle.std.proofs.Common.{◌++◌, ◌∷◌, [], ◌∙◌, sym, ap, ℕ, List, codes, string_bytes, arith}
 use Rattle.std.proofs.Common.{append_assoc}
-use Rattle.report_rules.specs.Report.{network_line, time_line}
+use Rattle.report_amounts.specs.report_rules.Report.{network_line, time_line}
 use Rattle.report_tables.proofs.Pieces.{after, after_three}
 use Rattle.report_tables.proofs.text.push_head.Goals as goal
 

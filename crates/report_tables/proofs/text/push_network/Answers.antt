@@ -1,8 +1,8 @@
 use Rattle.std.proofs.Common.{◌++◌, ◌∙◌, ap, ℕ, codes, length, unsigned_abs, string_bytes}
-use Rattle.number_sets.specs.Sets.{has}
-use Rattle.problem_rules.specs.Problem.{Problem}
-use Rattle.flow_rules.specs.Net.{net_of, materials_of}
-use Rattle.report_rules.specs.Report.{counted}
+use Rattle.text_lines.specs.number_sets.Sets.{has}
+use Rattle.text_lines.specs.problem_rules.Problem.{Problem}
+use Rattle.cert_check.specs.flow_rules.Net.{net_of, materials_of}
+use Rattle.report_amounts.specs.report_rules.Report.{counted}
 use Rattle.report_tables.proofs.Pieces.{after_five}
 use Rattle.report_tables.proofs.text.push_network.Goals as goal
 

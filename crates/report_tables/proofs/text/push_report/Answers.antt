@@ -1,8 +1,9 @@
 use Rattle.std.proofs.Common.{◌<◌, ◌++◌, ◌∙◌, sym, ap, subst, length, string_bytes}
-use Rattle.problem_rules.specs.Problem.{Problem}
-use Rattle.pns_problem.specs.Printing.{printed}
-use Rattle.report_rules.specs.Report.{head_lines, unit_lines, material_lines, money_lines}
-use Rattle.report_rules.specs.Report.{foot_lines}
+use Rattle.text_lines.specs.problem_rules.Problem.{Problem}
+use Rattle.cert_check.specs.pns_problem.Printing.{printed}
+use Rattle.report_amounts.specs.report_rules.Report.{head_lines, unit_lines, material_lines}
+use Rattle.report_amounts.specs.report_rules.Report.{money_lines}
+use Rattle.report_amounts.specs.report_rules.Report.{foot_lines}
 use Rattle.report_tables.proofs.Pieces.{parts_printed}
 use Rattle.report_tables.proofs.text.push_report.Goals as goal
 

@@ -1,5 +1,5 @@
 use Rattle.std.proofs.Common.{◌++◌, ◌∙◌, ap, ℕ, List, Option, codes, string_bytes}
-use Rattle.report_rules.specs.Measures.{time_words}
+use Rattle.report_amounts.specs.report_rules.Measures.{time_words}
 use Rattle.report_tables.proofs.Pieces.{after_three}
 use Rattle.report_tables.proofs.text.push_time.Goals as goal
 

@@ -1,8 +1,10 @@
 use Rattle.std.proofs.Common.{◌∷◌, [], codes}
-use Rattle.report_rules.specs.declared.amount.UnitAmount.TheVariants.{Fixed, Proportional}
-use Rattle.report_rules.specs.declared.amount.UnitAmount.TheVariants.{Investment, Total}
-use Rattle.report_rules.specs.Amounts.{unit_sum}
-use Rattle.report_rules.specs.Report.{number_cell}
+use Rattle.report_amounts.specs.report_rules.declared.amount.UnitAmount.TheVariants.{Fixed}
+use Rattle.report_amounts.specs.report_rules.declared.amount.UnitAmount.TheVariants.{Proportional}
+use Rattle.report_amounts.specs.report_rules.declared.amount.UnitAmount.TheVariants.{Investment}
+use Rattle.report_amounts.specs.report_rules.declared.amount.UnitAmount.TheVariants.{Total}
+use Rattle.report_amounts.specs.report_rules.Amounts.{unit_sum}
+use Rattle.report_amounts.specs.report_rules.Report.{number_cell}
 use Rattle.report_tables.proofs.Pieces.{after, row_of}
 use Rattle.report_tables.proofs.units.all_units_row.Goals as goal
 

@@ -1,7 +1,7 @@
 use Rattle.std.proofs.Common.{◌≡◌, ◌<◌, ◌++◌, ◌∙◌, sym, ap, subst, length, string_bytes}
-use Rattle.problem_rules.specs.Problem.{Problem}
-use Rattle.pns_problem.specs.Printing.{printed}
-use Rattle.report_rules.specs.Report.{table_and_gap, unit_sorts, unit_rows}
+use Rattle.text_lines.specs.problem_rules.Problem.{Problem}
+use Rattle.cert_check.specs.pns_problem.Printing.{printed}
+use Rattle.report_amounts.specs.report_rules.Report.{table_and_gap, unit_sorts, unit_rows}
 use Rattle.report_tables.proofs.units.push_units.Goals as goal
 
 pub all_rows-requires : goal.all_rows-requires

@@ -1,5 +1,5 @@
 use Rattle.std.proofs.Common.{◌++◌, ◌∷◌, [], ◌∙◌, ap, ℕ, List, Option, codes}
-use Rattle.report_rules.specs.Measures.{with_measure}
+use Rattle.report_amounts.specs.report_rules.Measures.{with_measure}
 use Rattle.report_tables.proofs.Pieces.{row_of}
 use Rattle.report_tables.proofs.units.unit_heading.Goals as goal
 

@@ -1,11 +1,14 @@
 use Rattle.std.proofs.Common.{◌++◌, ◌∷◌, [], ◌∙◌, ap, ℕ, List}
-use Rattle.problem_rules.specs.Problem.{unit_at}
-use Rattle.report_rules.specs.Number.{Number}
-use Rattle.report_rules.specs.declared.amount.UnitAmount.TheVariants.{Fixed, Proportional}
-use Rattle.report_rules.specs.declared.amount.UnitAmount.TheVariants.{Investment, Total}
-use Rattle.report_rules.specs.Amounts.{size, amount}
-use Rattle.report_rules.specs.Marginal.{unit_marginal}
-use Rattle.report_rules.specs.Report.{number_cell, share_cell, unit_limit, marginal_cell}
+use Rattle.text_lines.specs.problem_rules.Problem.{unit_at}
+use Rattle.report_amounts.specs.report_rules.Number.{Number}
+use Rattle.report_amounts.specs.report_rules.declared.amount.UnitAmount.TheVariants.{Fixed}
+use Rattle.report_amounts.specs.report_rules.declared.amount.UnitAmount.TheVariants.{Proportional}
+use Rattle.report_amounts.specs.report_rules.declared.amount.UnitAmount.TheVariants.{Investment}
+use Rattle.report_amounts.specs.report_rules.declared.amount.UnitAmount.TheVariants.{Total}
+use Rattle.report_amounts.specs.report_rules.Amounts.{size, amount}
+use Rattle.report_amounts.specs.report_rules.Marginal.{unit_marginal}
+use Rattle.report_amounts.specs.report_rules.Report.{number_cell, share_cell, unit_limit}
+use Rattle.report_amounts.specs.report_rules.Report.{marginal_cell}
 use Rattle.report_tables.proofs.Pieces.{after_five, row_of}
 use Rattle.report_tables.proofs.units.unit_row.Goals as goal
 

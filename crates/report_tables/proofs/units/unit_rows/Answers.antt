@@ -1,7 +1,7 @@
 use Rattle.std.proofs.Common.{◌≡◌, ◌∙◌, ◌++◌, ◌∷◌, [], ap, ℕ, List, map}
-use Rattle.number_sets.specs.Sets.{has}
-use Rattle.report_rules.specs.Report.{unit_row}
-use Rattle.report_amounts.proofs.Walk.{all_within, next_within, rest_within}
+use Rattle.text_lines.specs.number_sets.Sets.{has}
+use Rattle.report_amounts.specs.report_rules.Report.{unit_row}
+use Rattle.report_amounts.proofs.Cited.{all_within, next_within, rest_within}
 use Rattle.report_tables.proofs.Pieces.{next_row, last_row}
 use Rattle.report_tables.proofs.units.unit_rows.Goals as goal
 

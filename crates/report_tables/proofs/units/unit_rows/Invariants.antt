@@ -1,6 +1,6 @@
 use Rattle.std.proofs.Common.{◌≡◌, ◌++◌, map}
-use Rattle.number_sets.specs.Sets.{has, IsWithin}
-use Rattle.report_rules.specs.Report.{unit_row}
+use Rattle.text_lines.specs.number_sets.Sets.{has, IsWithin}
+use Rattle.report_amounts.specs.report_rules.Report.{unit_row}
 use Rattle.report_tables.proofs.units.unit_rows.Given as goal
 
 -- the table so far and the rows that are left give the whole table

@@ -2,7 +2,7 @@ use Rattle.std.proofs.Common.{rules, SFits}
 use Rattle.std.specs.Prelude.{unsigned_abs}
 use Rattle.std.specs.Int.{w128}
 use Rattle.std.proofs.lemmas.Int.{to_z-of_z}
-use Rattle.integer_laws.proofs.Coprime.{one_divides}
+use Rattle.tree_rules.proofs.integer_laws.Cited.{one_divides}
 use Rattle.scaled_flows.proofs.divisors.cost_divisor.Goals as goal
 
 pub returns-in-Some-clause-divides : goal.returns-in-Some-clause-divides

@@ -2,10 +2,10 @@ use Rattle.std.proofs.Common.{rules, SFits, to_z, subst, ℤ}
 use Rattle.std.specs.Prelude.{unsigned_abs}
 use Rattle.std.specs.Int.{w64, w128, ◌∣◌}
 use Rattle.std.proofs.lemmas.Int.{to_z-of_z}
-use Rattle.problem_rules.specs.Problem.{rate_of}
-use Rattle.pgraph.specs.View.{node_of}
-use Rattle.flow_rules.specs.Net.{net_of}
-use Rattle.flow_rules.specs.Relaxed.{row_low, row_high}
+use Rattle.tree_rules.specs.problem_rules.Problem.{rate_of}
+use Rattle.flow_program.specs.pgraph.View.{node_of}
+use Rattle.tree_rules.specs.flow_rules.Net.{net_of}
+use Rattle.tree_rules.specs.flow_rules.Relaxed.{row_low, row_high}
 use Rattle.scaled_flows.proofs.FoundLemmas.{rate_begins, rate_more, rate_end, through}
 use Rattle.scaled_flows.proofs.divisors.rate_divisor.Goals as goal
 

@@ -1,8 +1,8 @@
 use Rattle.std.proofs.Common.{List, ℤ, sym, subst, rules, SFits, ◌+◌}
 use Rattle.std.specs.Int.{w64}
 use Rattle.std.proofs.lemmas.Int.{to_z-of_z}
-use Rattle.pgraph.specs.View.{node_of}
-use Rattle.flow_rules.specs.Net.{net_of}
+use Rattle.flow_program.specs.pgraph.View.{node_of}
+use Rattle.tree_rules.specs.flow_rules.Net.{net_of}
 use Rattle.scaled_flows.specs.Found.{AreRateDivisors}
 use Rattle.scaled_flows.proofs.FoundLemmas.{rates_more}
 use Rattle.scaled_flows.proofs.divisors.rate_divisors.Goals as goal

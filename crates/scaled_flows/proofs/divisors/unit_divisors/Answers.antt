@@ -1,5 +1,5 @@
-use Rattle.pgraph.specs.View.{node_of}
-use Rattle.flow_rules.specs.Net.{net_of}
+use Rattle.flow_program.specs.pgraph.View.{node_of}
+use Rattle.tree_rules.specs.flow_rules.Net.{net_of}
 use Rattle.scaled_flows.proofs.FoundLemmas.{units_begin, units_more}
 use Rattle.scaled_flows.proofs.divisors.unit_divisors.Goals as goal
 

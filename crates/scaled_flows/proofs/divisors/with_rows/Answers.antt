@@ -4,12 +4,12 @@ use Rattle.std.specs.Prelude.{int_div, unsigned_abs}
 use Rattle.std.specs.Int.{w64, w128, ◌∣◌}
 use Rattle.std.proofs.lemmas.Int.{to_z-of_z}
 use Rattle.std.proofs.lemmas.Nat.Gcd.{dvd_refl}
-use Rattle.number_sets.specs.Sets.{IsSet}
-use Rattle.integer_laws.specs.Range.{InRange}
+use Rattle.tree_rules.specs.number_sets.Sets.{IsSet}
+use Rattle.tree_rules.specs.integer_laws.Range.{InRange}
 use Rattle.scaled_flows.proofs.DivisorLemmas.{divides_abs}
-use Rattle.pgraph.specs.View.{node_of}
-use Rattle.flow_rules.specs.Net.{net_of}
-use Rattle.flow_program.proofs.WalkLemmas.{next_of, head_had}
+use Rattle.flow_program.specs.pgraph.View.{node_of}
+use Rattle.tree_rules.specs.flow_rules.Net.{net_of}
+use Rattle.flow_program.proofs.Cited.{next_of, head_had}
 use Rattle.scaled_flows.proofs.FoundLemmas.{IsRowsDivisor, rows_begin, rows_more, quotient_small}
 use Rattle.scaled_flows.proofs.divisors.with_rows.Goals as goal
 

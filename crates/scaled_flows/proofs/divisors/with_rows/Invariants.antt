@@ -1,6 +1,6 @@
-use Rattle.number_sets.specs.Sets.{IsSet}
-use Rattle.pgraph.specs.View.{node_of}
-use Rattle.flow_rules.specs.Net.{net_of}
+use Rattle.tree_rules.specs.number_sets.Sets.{IsSet}
+use Rattle.flow_program.specs.pgraph.View.{node_of}
+use Rattle.tree_rules.specs.flow_rules.Net.{net_of}
 use Rattle.scaled_flows.proofs.FoundLemmas.{IsRowsDivisor}
 use Rattle.scaled_flows.proofs.divisors.with_rows.Given as goal
 

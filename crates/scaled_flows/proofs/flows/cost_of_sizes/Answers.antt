@@ -2,16 +2,16 @@ use Rattle.std.proofs.Common.{◌≡◌, ◌∙◌, ◌<◌, ℕ, List, true, le
 use Rattle.std.proofs.Common.{arith, pos, ◌*ℤ◌, ◌≤ℤ◌}
 use Rattle.std.specs.Int.{w128}
 use Rattle.std.proofs.lemmas.Int.{to_z-of_z, ints}
-use Rattle.integer_laws.specs.Total.{total}
-use Rattle.number_sets.specs.Sets.{has, listed}
-use Rattle.pns_rules.specs.Shape.{Shape}
-use Rattle.pns_rules.specs.Structure.{mats}
-use Rattle.pgraph.specs.View.{node_of}
-use Rattle.flow_rules.specs.Net.{net_of, trillion}
-use Rattle.flow_rules.specs.Relaxed.{stays, units, rows, fixed_cost}
+use Rattle.tree_rules.specs.integer_laws.Total.{total}
+use Rattle.tree_rules.specs.number_sets.Sets.{has, listed}
+use Rattle.tree_rules.specs.pns_rules.Shape.{Shape}
+use Rattle.tree_rules.specs.pns_rules.Structure.{mats}
+use Rattle.flow_program.specs.pgraph.View.{node_of}
+use Rattle.tree_rules.specs.flow_rules.Net.{net_of, trillion}
+use Rattle.tree_rules.specs.flow_rules.Relaxed.{stays, units, rows, fixed_cost}
 use Rattle.flow_program.specs.Entry.{entry}
-use Rattle.flow_program.proofs.NodeSetLemmas.{set_listed}
-use Rattle.exact_numbers.specs.Number.{numerator, denominator}
+use Rattle.flow_program.proofs.Cited.{set_listed}
+use Rattle.flow_program.specs.exact_numbers.Number.{numerator, denominator}
 use Rattle.scaled_flows.proofs.ProgramLemmas.{some_weaker, both_some, reached_from}
 use Rattle.scaled_flows.proofs.flows.cost_of_sizes.Goals as goal
 

@@ -5,20 +5,17 @@ use Rattle.std.specs.Int.{w64, w128}
 use Rattle.std.proofs.lemmas.Int.{to_z-of_z}
 use Rattle.std.specs.Ordering.{int_eq}
 use Rattle.std.specs.Prelude.{not}
-use Rattle.integer_laws.specs.Total.{total}
-use Rattle.number_sets.specs.Sets.{has}
-use Rattle.problem_rules.specs.Problem.{rate_of}
-use Rattle.pns_rules.specs.Shape.{Shape, shape_of}
-use Rattle.pns_rules.specs.Structure.{mats}
-use Rattle.pgraph.specs.View.{node_of}
-use Rattle.flow_rules.specs.Net.{net_of}
-use Rattle.flow_rules.specs.Relaxed.{stays, row_low, row_high}
-use Rattle.flow_rules.specs.FeasibleSteps.{units_at}
+use Rattle.tree_rules.specs.integer_laws.Total.{total}
+use Rattle.tree_rules.specs.number_sets.Sets.{has}
+use Rattle.tree_rules.specs.problem_rules.Problem.{rate_of}
+use Rattle.tree_rules.specs.pns_rules.Shape.{Shape, shape_of}
+use Rattle.tree_rules.specs.pns_rules.Structure.{mats}
+use Rattle.flow_program.specs.pgraph.View.{node_of}
+use Rattle.tree_rules.specs.flow_rules.Net.{net_of}
+use Rattle.tree_rules.specs.flow_rules.Relaxed.{stays, row_low, row_high}
+use Rattle.tree_rules.specs.flow_rules.FeasibleSteps.{units_at}
 use Rattle.flow_program.specs.Entry.{entry}
-use Rattle.flow_program.proofs.WalkLemmas.{next_of, head_had}
-use Rattle.flow_program.proofs.NodeSetLemmas.{listed_had}
-use Rattle.flow_program.proofs.ProgramLemmas.{range_formed}
-use Rattle.flow_program.proofs.FeasibleLemmas.{units_are}
+use Rattle.flow_program.proofs.Cited.{next_of, head_had, listed_had, range_formed, units_are}
 use Rattle.scaled_flows.specs.Divisors.{rate_divisor}
 use Rattle.scaled_flows.specs.Scaled.{row_floor, row_ceiling, scaled_balance}
 use Rattle.scaled_flows.specs.Settled.{IsSettled}

@@ -1,6 +1,6 @@
-use Rattle.number_sets.specs.Sets.{IsSet}
-use Rattle.pgraph.specs.View.{node_of}
-use Rattle.flow_rules.specs.Net.{net_of}
+use Rattle.tree_rules.specs.number_sets.Sets.{IsSet}
+use Rattle.flow_program.specs.pgraph.View.{node_of}
+use Rattle.tree_rules.specs.flow_rules.Net.{net_of}
 use Rattle.flow_program.specs.Entry.{entry}
 use Rattle.scaled_flows.specs.Scaled.{row_floor, row_ceiling, scaled_balance}
 use Rattle.scaled_flows.specs.Settled.{IsSettled}

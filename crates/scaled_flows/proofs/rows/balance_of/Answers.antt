@@ -2,9 +2,9 @@ use Rattle.std.proofs.Common.{◌∙◌, ap, SFits, rules, to_z, get_or, pos, �
 use Rattle.std.specs.Prelude.{int_div}
 use Rattle.std.specs.Int.{w64, w128}
 use Rattle.std.proofs.lemmas.Int.{to_z-of_z}
-use Rattle.problem_rules.specs.Problem.{rate_of}
+use Rattle.tree_rules.specs.problem_rules.Problem.{rate_of}
 use Rattle.flow_program.specs.Entry.{entry}
-use Rattle.flow_program.proofs.WalkLemmas.{next_of, head_had}
+use Rattle.flow_program.proofs.Cited.{next_of, head_had}
 use Rattle.scaled_flows.proofs.SumLemmas.{sum_more}
 use Rattle.scaled_flows.proofs.rows.balance_of.Goals as goal
 

@@ -1,7 +1,7 @@
-use Rattle.number_sets.specs.Sets.{IsSet}
+use Rattle.tree_rules.specs.number_sets.Sets.{IsSet}
 use Rattle.std.proofs.Common.{◌*ℤ◌}
 use Rattle.std.specs.Prelude.{int_div}
-use Rattle.problem_rules.specs.Problem.{rate_of}
+use Rattle.tree_rules.specs.problem_rules.Problem.{rate_of}
 use Rattle.flow_program.specs.Entry.{entry}
 use Rattle.scaled_flows.proofs.SumLemmas.{IsSumSoFar}
 use Rattle.scaled_flows.proofs.rows.balance_of.Given as goal

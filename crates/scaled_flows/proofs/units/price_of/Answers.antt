@@ -3,7 +3,7 @@ use Rattle.std.specs.Prelude.{int_div}
 use Rattle.std.specs.Int.{w64, w128}
 use Rattle.std.proofs.lemmas.Int.{to_z-of_z}
 use Rattle.flow_program.specs.Entry.{entry}
-use Rattle.flow_program.proofs.WalkLemmas.{next_of}
+use Rattle.flow_program.proofs.Cited.{next_of}
 use Rattle.scaled_flows.specs.Divisors.{rate_divisor}
 use Rattle.scaled_flows.proofs.SumLemmas.{rest_more}
 use Rattle.scaled_flows.proofs.units.price_of.Goals as goal

@@ -1,4 +1,4 @@
-use Rattle.number_sets.specs.Sets.{IsSet}
+use Rattle.tree_rules.specs.number_sets.Sets.{IsSet}
 use Rattle.std.proofs.Common.{◌*ℤ◌}
 use Rattle.std.specs.Prelude.{int_div}
 use Rattle.flow_program.specs.Entry.{entry}

@@ -2,7 +2,7 @@ use Rattle.std.proofs.Common.{◌≡◌, ◌∙◌, refl, ap, SFits, rules, true
 use Rattle.std.specs.Prelude.{int_div}
 use Rattle.std.specs.Int.{w128}
 use Rattle.std.proofs.lemmas.Int.{to_z-of_z}
-use Rattle.integer_laws.specs.Total.{total}
+use Rattle.tree_rules.specs.integer_laws.Total.{total}
 use Rattle.flow_program.specs.Entry.{entry}
 use Rattle.scaled_flows.specs.Divisors.{rate_divisor}
 use Rattle.scaled_flows.proofs.ProgramLemmas.{some_of, settled_same}

@@ -3,13 +3,12 @@ use Rattle.std.proofs.Common.{arith, pos, ℤ, ◌+ℤ◌, ◌*ℤ◌}
 use Rattle.std.specs.Prelude.{int_div}
 use Rattle.std.specs.Int.{w64, w128}
 use Rattle.std.proofs.lemmas.Int.{to_z-of_z}
-use Rattle.integer_laws.specs.Range.{InRange}
-use Rattle.pgraph.specs.View.{node_of}
-use Rattle.flow_rules.specs.Net.{net_of}
-use Rattle.flow_rules.specs.Relaxed.{stays, unit_low}
+use Rattle.tree_rules.specs.integer_laws.Range.{InRange}
+use Rattle.flow_program.specs.pgraph.View.{node_of}
+use Rattle.tree_rules.specs.flow_rules.Net.{net_of}
+use Rattle.tree_rules.specs.flow_rules.Relaxed.{stays, unit_low}
 use Rattle.flow_program.specs.Entry.{entry}
-use Rattle.flow_program.proofs.WalkLemmas.{next_of, head_had}
-use Rattle.flow_program.proofs.NodeSetLemmas.{listed_had}
+use Rattle.flow_program.proofs.Cited.{next_of, head_had, listed_had}
 use Rattle.scaled_flows.specs.Scaled.{size_floor, size_ceiling, scaled_cost, price}
 use Rattle.scaled_flows.specs.Settled.{IsSettled}
 use Rattle.scaled_flows.proofs.SumLemmas.{known_more, sum_more}

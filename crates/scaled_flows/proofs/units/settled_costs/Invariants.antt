@@ -1,7 +1,7 @@
-use Rattle.number_sets.specs.Sets.{IsSet}
+use Rattle.tree_rules.specs.number_sets.Sets.{IsSet}
 use Rattle.std.proofs.Common.{◌*ℤ◌}
-use Rattle.pgraph.specs.View.{node_of}
-use Rattle.flow_rules.specs.Net.{net_of}
+use Rattle.flow_program.specs.pgraph.View.{node_of}
+use Rattle.tree_rules.specs.flow_rules.Net.{net_of}
 use Rattle.flow_program.specs.Entry.{entry}
 use Rattle.scaled_flows.specs.Scaled.{size_floor, size_ceiling, scaled_cost, price}
 use Rattle.scaled_flows.specs.Settled.{IsSettled}

@@ -1,4 +1,4 @@
-use Rattle.pns_rules.proofs.ProperLemmas.{proper_if_valid}
+use Rattle.tree_laws.proofs.pns_rules.Cited.{proper_if_valid}
 use Rattle.search_tree.proofs.SpentLemmas.{lean_is_few}
 use Rattle.search_tree.proofs.counts.lean_is_few.Goals as goal
 

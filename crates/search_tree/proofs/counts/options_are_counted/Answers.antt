@@ -1,4 +1,4 @@
-use Rattle.pns_rules.specs.Nodes.{base_makers, free_makers}
+use Rattle.tree_laws.specs.pns_rules.Nodes.{base_makers, free_makers}
 use Rattle.search_tree.proofs.NumberLemmas.{count_of_none, count_of_some, shares_are_small}
 use Rattle.search_tree.proofs.counts.options_are_counted.Goals as goal
 

@@ -1,5 +1,5 @@
 use Rattle.std.specs.Prelude.{true}
-use Rattle.pns_rules.proofs.ProperLemmas.{proper_if_valid}
+use Rattle.tree_laws.proofs.pns_rules.Cited.{proper_if_valid}
 use Rattle.search_tree.proofs.SpentLemmas.{never_spent}
 use Rattle.search_tree.proofs.counts.spent_is_never.Goals as goal
 

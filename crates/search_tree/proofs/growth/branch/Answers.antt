@@ -1,5 +1,5 @@
 use Rattle.std.proofs.Common.{List, slice_set, ◌++◌, subst}
-use Rattle.exact_numbers.specs.declared.number.Mixed.{Mixed}
+use Rattle.node_pool.specs.exact_numbers.declared.number.Mixed.{Mixed}
 use Rattle.branch_tree.specs.View.{end_of}
 use Rattle.search_tree.specs.declared.growth.Fresh.{Fresh}
 use Rattle.search_tree.specs.Cells.{Cell, cell_at}

@@ -1,5 +1,5 @@
 use Rattle.std.proofs.Common.{◌≡◌, sym, subst}
-use Rattle.link_lists.specs.Lists.{has}
+use Rattle.node_pool.specs.link_lists.Lists.{has}
 use Rattle.node_pool.specs.Pooled.{Pooled, IsShut, with_payload}
 use Rattle.search_tree.specs.Cells.{Cell}
 use Rattle.search_tree.proofs.GrowthLemmas.{others_stay, shut_now}

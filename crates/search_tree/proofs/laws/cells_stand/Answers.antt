@@ -1,7 +1,7 @@
 use Rattle.std.specs.Prelude.{[], ◌∷◌}
-use Rattle.pns_rules.specs.Shape.{shape_of}
-use Rattle.tree_rules.specs.Leaf.{LeafPasses}
-use Rattle.tree_rules.specs.Claim.{claimed_cost}
+use Rattle.tree_laws.specs.pns_rules.Shape.{shape_of}
+use Rattle.tree_laws.specs.tree_rules.Leaf.{LeafPasses}
+use Rattle.tree_laws.specs.tree_rules.Claim.{claimed_cost}
 use Rattle.search_tree.proofs.PassLemmas.{nodes_are_cells, cells_stand, aligned_start}
 use Rattle.search_tree.proofs.laws.cells_stand.Goals as goal
 

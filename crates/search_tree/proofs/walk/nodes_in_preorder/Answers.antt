@@ -3,7 +3,7 @@ use Rattle.std.proofs.Common.{sym, ap, ◌∙◌, subst, arith, rules}
 use Rattle.std.specs.Prelude.{option_copied}
 use Rattle.std.specs.List.{range_with_len}
 use Rattle.std.proofs.lemmas.Option.{get_or_from_slice_get}
-use Rattle.tree_rules.specs.Accepted.{Tree}
+use Rattle.tree_laws.specs.tree_rules.Accepted.{Tree}
 use Rattle.search_tree.specs.declared.walk.Run.{Run}
 use Rattle.search_tree.specs.Cells.{Cell, no_cell, cell_at, numbers_below, children_at}
 use Rattle.search_tree.specs.declared.shut.Shut.{Shut}

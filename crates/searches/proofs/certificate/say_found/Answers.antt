@@ -1,8 +1,8 @@
 use Rattle.std.proofs.Common.{◌∙◌, sym}
-use Rattle.tree_text_rules.specs.Read.{Certificate}
-use Rattle.studio_rules.specs.Ending.{Tells}
-use Rattle.studio_rules.specs.declared.status.Status.TheVariants.{Memory}
-use Rattle.command_files.proofs.Ending.{Ends-map, Tells-map, Tells-memory, only_in}
+use Rattle.tree_text.specs.tree_text_rules.Read.{Certificate}
+use Rattle.command_files.specs.studio_rules.Ending.{Tells}
+use Rattle.command_files.specs.studio_rules.declared.status.Status.TheVariants.{Memory}
+use Rattle.command_files.proofs.Cited.{Ends-map, Tells-map, Tells-memory, only_in}
 use Rattle.searches.specs.Found.{CertificateSays, FoundSays}
 use Rattle.searches.proofs.FoundTexts.{can_print}
 use Rattle.searches.proofs.certificate.say_found.Goals as goal

@@ -1,7 +1,7 @@
 use Rattle.std.proofs.Common.{◌∙◌, ◌++◌, ℕ, List, ap, ap₂}
-use Rattle.plan_rules.specs.Folded.{Run, Written}
-use Rattle.studio_rules.specs.Lines.{text_of}
-use Rattle.studio_rules.specs.DesignText.{built_lines, runs_lines}
+use Rattle.command_files.specs.plan_rules.Folded.{Run, Written}
+use Rattle.command_files.specs.studio_rules.Lines.{text_of}
+use Rattle.command_files.specs.studio_rules.DesignText.{built_lines, runs_lines}
 use Rattle.searches.proofs.Texts.{whole_text}
 use Rattle.searches.proofs.design_text.design_text.Goals as goal
 

@@ -1,6 +1,6 @@
 use Rattle.std.proofs.Common.{◌∙◌, ◌++◌, ℕ, List, ap, ap₂}
-use Rattle.plan_rules.specs.Folded.{Written}
-use Rattle.studio_rules.specs.DesignText.{spaced_units}
+use Rattle.command_files.specs.plan_rules.Folded.{Written}
+use Rattle.command_files.specs.studio_rules.DesignText.{spaced_units}
 use Rattle.searches.proofs.Texts.{built_text}
 use Rattle.searches.proofs.design_text.push_built.Goals as goal
 

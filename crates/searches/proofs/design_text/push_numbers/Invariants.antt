@@ -1,5 +1,5 @@
 use Rattle.std.proofs.Common.{◌≡◌, ◌++◌, drop, string_bytes}
-use Rattle.studio_rules.specs.DesignText.{spaced_numbers}
+use Rattle.command_files.specs.studio_rules.DesignText.{spaced_numbers}
 use Rattle.searches.proofs.design_text.push_numbers.Given as goal
 
 abbrev pub invariant-printing : goal.invariant-printing

@@ -1,6 +1,6 @@
 use Rattle.std.proofs.Common.{◌≡◌, ◌++◌, ◌+◌, drop}
-use Rattle.studio_rules.specs.Lines.{text_of}
-use Rattle.studio_rules.specs.DesignText.{runs_lines}
+use Rattle.command_files.specs.studio_rules.Lines.{text_of}
+use Rattle.command_files.specs.studio_rules.DesignText.{runs_lines}
 use Rattle.searches.proofs.design_text.push_runs.Given as goal
 
 abbrev pub invariant-running : goal.invariant-running

@@ -1,12 +1,11 @@
 use Rattle.std.proofs.Common.{◌≡◌, ℕ, List}
-use Rattle.studio_rules.specs.Reading.{TwoFilesSay}
-use Rattle.studio_rules.specs.Plan.{OnPlan, PlanSays}
-use Rattle.studio_rules.specs.Expand.{ExpandWork}
-use Rattle.studio_rules.specs.Ending.{Says}
-use Rattle.studio_rules.specs.declared.status.Status.{Status}
-use Rattle.command_files.proofs.Ending.{Ends-map, Ends-from}
-use Rattle.command_files.proofs.Seconds.{on_both-faults, on_both-work}
-use Rattle.command_files.proofs.Keeping.{keeps_through}
+use Rattle.command_files.specs.studio_rules.Reading.{TwoFilesSay}
+use Rattle.command_files.specs.studio_rules.Plan.{OnPlan, PlanSays}
+use Rattle.command_files.specs.studio_rules.Expand.{ExpandWork}
+use Rattle.command_files.specs.studio_rules.Ending.{Says}
+use Rattle.command_files.specs.studio_rules.declared.status.Status.{Status}
+use Rattle.command_files.proofs.Cited.{Ends-map, Ends-from, on_both-faults, on_both-work}
+use Rattle.command_files.proofs.Cited.{keeps_through}
 use Rattle.searches.proofs.expansion.expand.Goals as goal
 
 pub returns-in-Ok-clause-ends : goal.returns-in-Ok-clause-ends

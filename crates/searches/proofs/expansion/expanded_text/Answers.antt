@@ -1,6 +1,6 @@
 use Rattle.std.proofs.Common.{◌≡◌, IfOk, subst}
-use Rattle.problem_rules.specs.Problem.{Problem}
-use Rattle.text_rules.specs.Canonical.{canonical}
+use Rattle.tree_text.specs.problem_rules.Problem.{Problem}
+use Rattle.tree_text.specs.text_rules.Canonical.{canonical}
 use Rattle.searches.proofs.expansion.expanded_text.Goals as goal
 
 pub returns : goal.returns

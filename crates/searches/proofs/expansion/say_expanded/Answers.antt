@@ -1,14 +1,13 @@
 use Rattle.std.proofs.Common.{◌≡◌, [], refl, inl, inr, ℕ, List}
-use Rattle.text_rules.specs.Canonical.{canonical_lines}
-use Rattle.plan_rules.specs.Expanded.{expanded}
-use Rattle.studio_rules.specs.Lines.{text_of}
-use Rattle.studio_rules.specs.Plan.{OnPlan, PlanFileFault, PlanSays}
-use Rattle.studio_rules.specs.Expand.{ExpandWork}
-use Rattle.studio_rules.specs.Ending.{Says}
-use Rattle.studio_rules.specs.declared.status.Status.{Status}
-use Rattle.studio_rules.specs.declared.status.Status.TheVariants.{Done}
-use Rattle.command_files.proofs.Ending.{Ends-map, Ends-from, only_or_memory_in}
-use Rattle.command_files.proofs.Seconds.{on_second-faults}
+use Rattle.tree_text.specs.text_rules.Canonical.{canonical_lines}
+use Rattle.command_files.specs.plan_rules.Expanded.{expanded}
+use Rattle.command_files.specs.studio_rules.Lines.{text_of}
+use Rattle.command_files.specs.studio_rules.Plan.{OnPlan, PlanFileFault, PlanSays}
+use Rattle.command_files.specs.studio_rules.Expand.{ExpandWork}
+use Rattle.command_files.specs.studio_rules.Ending.{Says}
+use Rattle.command_files.specs.studio_rules.declared.status.Status.{Status}
+use Rattle.command_files.specs.studio_rules.declared.status.Status.TheVariants.{Done}
+use Rattle.command_files.proofs.Cited.{Ends-map, Ends-from, only_or_memory_in, on_second-faults}
 use Rattle.searches.proofs.expansion.say_expanded.Goals as goal
 
 pub returns-in-Ok-clause-ends : goal.returns-in-Ok-clause-ends

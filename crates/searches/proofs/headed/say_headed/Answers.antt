@@ -1,12 +1,12 @@
 use Rattle.std.proofs.Common.{List, refl}
-use Rattle.tree_rules.specs.Claim as claims
-use Rattle.tree_rules.specs.Tail.{whole}
-use Rattle.tree_text_rules.specs.Line.{Token}
-use Rattle.tree_text_rules.specs.Spelling.{headed_text_lines}
-use Rattle.studio_rules.specs.Printed.{OneAnswer}
-use Rattle.studio_rules.specs.Solve.{HeadedWork}
-use Rattle.studio_rules.specs.declared.status.Status.TheVariants.{Done}
-use Rattle.command_files.proofs.Ending.{Tells-map, Ends-from}
+use Rattle.tree_text.specs.tree_rules.Claim as claims
+use Rattle.tree_text.specs.tree_rules.Tail.{whole}
+use Rattle.tree_text.specs.tree_text_rules.Line.{Token}
+use Rattle.tree_text.specs.tree_text_rules.Spelling.{headed_text_lines}
+use Rattle.command_files.specs.studio_rules.Printed.{OneAnswer}
+use Rattle.command_files.specs.studio_rules.Solve.{HeadedWork}
+use Rattle.command_files.specs.studio_rules.declared.status.Status.TheVariants.{Done}
+use Rattle.command_files.proofs.Cited.{Tells-map, Ends-from}
 use Rattle.searches.proofs.Solved.{headed_works}
 use Rattle.searches.proofs.headed.say_headed.Goals as goal
 

@@ -1,8 +1,8 @@
 use Rattle.std.proofs.Common.{◌≡◌, IfOk, length, subst, ap, arith}
 use Rattle.std.proofs.lemmas.List.FromFn.{length-map-range_with_len}
-use Rattle.plan_rules.specs.Folded.{Written, run_in}
-use Rattle.studio_rules.specs.Lines.{text_of}
-use Rattle.studio_rules.specs.DesignText.{design_lines}
+use Rattle.command_files.specs.plan_rules.Folded.{Written, run_in}
+use Rattle.command_files.specs.studio_rules.Lines.{text_of}
+use Rattle.command_files.specs.studio_rules.DesignText.{design_lines}
 use Rattle.searches.proofs.least.network_text.Goals as goal
 
 pub design_text-requires : goal.design_text-requires

@@ -1,7 +1,7 @@
-use Rattle.studio_rules.specs.Ending.{Tells}
-use Rattle.studio_rules.specs.declared.status.Status.TheVariants.{Memory}
-use Rattle.command_files.proofs.Ending.{Ends-map, Tells-memory, only_in}
-use Rattle.studio_rules.specs.Periods.{PeriodsWork}
+use Rattle.command_files.specs.studio_rules.Ending.{Tells}
+use Rattle.command_files.specs.studio_rules.declared.status.Status.TheVariants.{Memory}
+use Rattle.command_files.proofs.Cited.{Ends-map, Tells-memory, only_in}
+use Rattle.command_files.specs.studio_rules.Periods.{PeriodsWork}
 use Rattle.searches.proofs.least.say_least.Goals as goal
 
 pub returns-in-Err : goal.returns-in-Err

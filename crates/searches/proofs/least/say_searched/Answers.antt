@@ -1,16 +1,17 @@
 use Rattle.std.proofs.Common.{ℕ, List, [], ◌∷◌, refl, codes, subst}
-use Rattle.plan_rules.specs.Plan.{Plan}
-use Rattle.abb_search.specs.declared.outcome.Found.{Found}
-use Rattle.abb_search.specs.Found.{IsFound}
-use Rattle.tree_rules.specs.Accepted.{first_node}
-use Rattle.plan_rules.specs.Folded.{folded}
-use Rattle.studio_rules.specs.Lines.{text_of}
-use Rattle.studio_rules.specs.Ending.{Tells}
-use Rattle.studio_rules.specs.declared.status.Status.TheVariants.{Done, Memory}
-use Rattle.command_files.proofs.Ending.{Ends-map, Tells-map, Tells-memory, only_in, only_or_memory_in}
+use Rattle.command_files.specs.plan_rules.Plan.{Plan}
+use Rattle.headed_search.specs.abb_search.declared.outcome.Found.{Found}
+use Rattle.headed_search.specs.abb_search.Found.{IsFound}
+use Rattle.tree_text.specs.tree_rules.Accepted.{first_node}
+use Rattle.command_files.specs.plan_rules.Folded.{folded}
+use Rattle.command_files.specs.studio_rules.Lines.{text_of}
+use Rattle.command_files.specs.studio_rules.Ending.{Tells}
+use Rattle.command_files.specs.studio_rules.declared.status.Status.TheVariants.{Done, Memory}
+use Rattle.command_files.proofs.Cited.{Ends-map, Tells-map, Tells-memory, only_in}
+use Rattle.command_files.proofs.Cited.{only_or_memory_in}
 use Rattle.searches.specs.Found.{FoundSays}
-use Rattle.studio_rules.specs.DesignText.{design_lines}
-use Rattle.studio_rules.specs.Periods.{PeriodsWork}
+use Rattle.command_files.specs.studio_rules.DesignText.{design_lines}
+use Rattle.command_files.specs.studio_rules.Periods.{PeriodsWork}
 use Rattle.searches.proofs.Searched.{feasible_there, least_text, solved_there}
 use Rattle.searches.proofs.Searched.{none_text, stopped_text}
 use Rattle.searches.proofs.least.say_searched.Goals as goal

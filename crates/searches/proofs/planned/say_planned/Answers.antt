@@ -1,12 +1,11 @@
 use Rattle.std.proofs.Common.{◌≡◌, inl, inr, ℕ, List}
-use Rattle.problem_rules.specs.Problem.{Problem}
-use Rattle.plan_rules.specs.Plan.{Plan}
-use Rattle.studio_rules.specs.Plan.{OnPlan, PlanFileFault, PlanSays}
-use Rattle.studio_rules.specs.Periods.{PeriodsWork}
-use Rattle.studio_rules.specs.Ending.{Says, Tells}
-use Rattle.studio_rules.specs.declared.status.Status.{Status}
-use Rattle.command_files.proofs.Ending.{Ends-map, Ends-from, Says-told}
-use Rattle.command_files.proofs.Seconds.{on_second-faults}
+use Rattle.tree_text.specs.problem_rules.Problem.{Problem}
+use Rattle.command_files.specs.plan_rules.Plan.{Plan}
+use Rattle.command_files.specs.studio_rules.Plan.{OnPlan, PlanFileFault, PlanSays}
+use Rattle.command_files.specs.studio_rules.Periods.{PeriodsWork}
+use Rattle.command_files.specs.studio_rules.Ending.{Says, Tells}
+use Rattle.command_files.specs.studio_rules.declared.status.Status.{Status}
+use Rattle.command_files.proofs.Cited.{Ends-map, Ends-from, Says-told, on_second-faults}
 use Rattle.searches.proofs.planned.say_planned.Goals as goal
 
 pub returns-in-Ok-clause-ends : goal.returns-in-Ok-clause-ends

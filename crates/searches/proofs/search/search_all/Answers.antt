@@ -1,12 +1,12 @@
 use Rattle.std.proofs.Common.{◌≡◌, sym, subst}
-use Rattle.number_sets.specs.Sets.{has}
-use Rattle.problem_rules.specs.Problem.{Problem}
-use Rattle.pns_rules.specs.Shape.{shape_of}
-use Rattle.pns_rules.specs.Nodes.{Node}
-use Rattle.pns_rules.specs.Ends.{IsSound}
-use Rattle.pgraph.specs.View.{node_of}
-use Rattle.tree_rules.specs.Accepted.{first_node}
-use Rattle.abb_search.specs.Found.{IsFound}
+use Rattle.tree_text.specs.number_sets.Sets.{has}
+use Rattle.tree_text.specs.problem_rules.Problem.{Problem}
+use Rattle.tree_text.specs.pns_rules.Shape.{shape_of}
+use Rattle.tree_text.specs.pns_rules.Nodes.{Node}
+use Rattle.tree_text.specs.pns_rules.Ends.{IsSound}
+use Rattle.tree_text.specs.pgraph.View.{node_of}
+use Rattle.tree_text.specs.tree_rules.Accepted.{first_node}
+use Rattle.headed_search.specs.abb_search.Found.{IsFound}
 use Rattle.searches.proofs.FoundTexts.{first_is_sound}
 use Rattle.searches.proofs.search.search_all.Goals as goal
 

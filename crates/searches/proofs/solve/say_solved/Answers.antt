@@ -1,8 +1,8 @@
 use Rattle.std.proofs.Common.{subst, inl, inr}
-use Rattle.studio_rules.specs.Ending.{Tells}
-use Rattle.studio_rules.specs.Solve.{SolveWork, HeadedWork}
-use Rattle.studio_rules.specs.declared.status.Status.TheVariants.{Memory}
-use Rattle.command_files.proofs.Ending.{Ends-map, Tells-map, Tells-memory, only_in}
+use Rattle.command_files.specs.studio_rules.Ending.{Tells}
+use Rattle.command_files.specs.studio_rules.Solve.{SolveWork, HeadedWork}
+use Rattle.command_files.specs.studio_rules.declared.status.Status.TheVariants.{Memory}
+use Rattle.command_files.proofs.Cited.{Ends-map, Tells-map, Tells-memory, only_in}
 use Rattle.searches.specs.Found.{FoundSays}
 use Rattle.searches.proofs.FoundTexts.{found_solves}
 use Rattle.searches.specs.declared.solves_search.Solution.{Solution}

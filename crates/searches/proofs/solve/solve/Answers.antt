@@ -1,11 +1,10 @@
 use Rattle.std.proofs.Common.{ap, ℕ, List}
-use Rattle.problem_rules.specs.Problem.{Problem}
-use Rattle.studio_rules.specs.Solve.{SolveWork}
-use Rattle.studio_rules.specs.Reading.{FileSays}
-use Rattle.studio_rules.specs.Ending.{Tells}
-use Rattle.studio_rules.specs.declared.status.Status.{Status}
-use Rattle.command_files.proofs.Ending.{Ends-map, Ends-from}
-use Rattle.command_files.proofs.Files.{on_file-faults, on_file-work}
+use Rattle.tree_text.specs.problem_rules.Problem.{Problem}
+use Rattle.command_files.specs.studio_rules.Solve.{SolveWork}
+use Rattle.command_files.specs.studio_rules.Reading.{FileSays}
+use Rattle.command_files.specs.studio_rules.Ending.{Tells}
+use Rattle.command_files.specs.studio_rules.declared.status.Status.{Status}
+use Rattle.command_files.proofs.Cited.{Ends-map, Ends-from, on_file-faults, on_file-work}
 use Rattle.searches.proofs.solve.solve.Goals as goal
 
 pub returns-in-Ok-clause-ends : goal.returns-in-Ok-clause-ends

@@ -1,7 +1,7 @@
 use Rattle.std.proofs.Common.{IfSome, subst}
-use Rattle.problem_rules.specs.Problem.{Problem}
-use Rattle.tree_rules.specs.Claim.{network}
-use Rattle.studio_rules.specs.Solve.{SolvesBy}
+use Rattle.tree_text.specs.problem_rules.Problem.{Problem}
+use Rattle.tree_text.specs.tree_rules.Claim.{network}
+use Rattle.command_files.specs.studio_rules.Solve.{SolvesBy}
 use Rattle.searches.proofs.Solved.{all_solve}
 use Rattle.searches.proofs.solves_search.head_for.Goals as goal
 

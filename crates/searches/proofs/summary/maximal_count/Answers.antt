@@ -1,4 +1,4 @@
-use Rattle.pgraph.specs.Tables.{shape}
+use Rattle.tree_text.specs.pgraph.Tables.{shape}
 use Rattle.searches.proofs.Summaries.{counts, none_refuted}
 use Rattle.searches.proofs.summary.maximal_count.Goals as goal
 

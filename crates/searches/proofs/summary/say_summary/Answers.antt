@@ -1,10 +1,10 @@
 use Rattle.std.proofs.Common.{ℕ, List, refl, ap, length}
-use Rattle.number_sets.specs.Sets.{has}
-use Rattle.studio_rules.specs.Lines.{text_of}
-use Rattle.studio_rules.specs.Ending.{Tells}
-use Rattle.studio_rules.specs.declared.status.Status.TheVariants.{Done}
-use Rattle.command_files.proofs.Ending.{Ends-map, only_or_memory_in, Tells-memory}
-use Rattle.studio_rules.specs.Summary.{CountsMaximal, SummarySays, summary_lines}
+use Rattle.tree_text.specs.number_sets.Sets.{has}
+use Rattle.command_files.specs.studio_rules.Lines.{text_of}
+use Rattle.command_files.specs.studio_rules.Ending.{Tells}
+use Rattle.command_files.specs.studio_rules.declared.status.Status.TheVariants.{Done}
+use Rattle.command_files.proofs.Cited.{Ends-map, only_or_memory_in, Tells-memory}
+use Rattle.command_files.specs.studio_rules.Summary.{CountsMaximal, SummarySays, summary_lines}
 use Rattle.searches.proofs.summary.say_summary.Goals as goal
 
 pub returns : goal.returns

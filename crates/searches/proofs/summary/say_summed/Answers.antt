@@ -1,16 +1,16 @@
 use Rattle.std.proofs.Common.{sym, subst, inl}
-use Rattle.tree_rules.specs.Claim as claims
-use Rattle.tree_rules.specs.Claim.{Network}
-use Rattle.tree_rules.specs.Accepted.{first_node}
-use Rattle.studio_rules.specs.Ending.{Tells}
-use Rattle.studio_rules.specs.declared.status.Status.{Status}
-use Rattle.studio_rules.specs.declared.status.Status.TheVariants.{Memory}
-use Rattle.command_files.proofs.Ending.{Ends-map, Tells-map, Tells-memory, only_in}
-use Rattle.abb_search.specs.declared.outcome.Found.{Found}
-use Rattle.abb_search.specs.Found.{IsFound}
-use Rattle.tree_rules.specs.Proved.{IsProved}
+use Rattle.tree_text.specs.tree_rules.Claim as claims
+use Rattle.tree_text.specs.tree_rules.Claim.{Network}
+use Rattle.tree_text.specs.tree_rules.Accepted.{first_node}
+use Rattle.command_files.specs.studio_rules.Ending.{Tells}
+use Rattle.command_files.specs.studio_rules.declared.status.Status.{Status}
+use Rattle.command_files.specs.studio_rules.declared.status.Status.TheVariants.{Memory}
+use Rattle.command_files.proofs.Cited.{Ends-map, Tells-map, Tells-memory, only_in}
+use Rattle.headed_search.specs.abb_search.declared.outcome.Found.{Found}
+use Rattle.headed_search.specs.abb_search.Found.{IsFound}
+use Rattle.tree_text.specs.tree_rules.Proved.{IsProved}
 use Rattle.searches.specs.Found.{FoundSays}
-use Rattle.studio_rules.specs.Summary.{SummarySays, SummaryWork}
+use Rattle.command_files.specs.studio_rules.Summary.{SummarySays, SummaryWork}
 use Rattle.searches.proofs.FoundTexts.{solves, found_sums}
 use Rattle.searches.proofs.summary.say_summed.Goals as goal
 

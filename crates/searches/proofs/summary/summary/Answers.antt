@@ -2,9 +2,9 @@ use Rattle.std.proofs.Common.{◌≡◌, ◌++◌, ◌∙◌, ℕ, ℤ, List, le
 use Rattle.std.proofs.Common.{string_bytes}
 use Rattle.std.specs.Int.{w128}
 use Rattle.std.proofs.lemmas.Int.{to_z-of_z}
-use Rattle.number_sets.specs.Sets.{has}
-use Rattle.problem_rules.specs.Problem.{OperatingUnit, unit_names}
-use Rattle.studio_rules.specs.Lines.{spaced_names, names_in}
+use Rattle.tree_text.specs.number_sets.Sets.{has}
+use Rattle.tree_text.specs.problem_rules.Problem.{OperatingUnit, unit_names}
+use Rattle.command_files.specs.studio_rules.Lines.{spaced_names, names_in}
 use Rattle.searches.proofs.Summaries.{before_names, behind_names, summary_is}
 use Rattle.searches.proofs.summary.summary.Goals as goal
 

@@ -1,10 +1,10 @@
 use Rattle.std.proofs.Common.{subst}
-use Rattle.problem_rules.specs.Problem.{Problem}
-use Rattle.studio_rules.specs.Summary.{SummaryWork}
-use Rattle.studio_rules.specs.Trial.{TrialWork}
-use Rattle.studio_rules.specs.Ending.{Tells}
-use Rattle.studio_rules.specs.declared.status.Status.TheVariants.{Memory}
-use Rattle.command_files.proofs.Ending.{Ends-map, Tells-map, Tells-memory, only_in}
+use Rattle.tree_text.specs.problem_rules.Problem.{Problem}
+use Rattle.command_files.specs.studio_rules.Summary.{SummaryWork}
+use Rattle.command_files.specs.studio_rules.Trial.{TrialWork}
+use Rattle.command_files.specs.studio_rules.Ending.{Tells}
+use Rattle.command_files.specs.studio_rules.declared.status.Status.TheVariants.{Memory}
+use Rattle.command_files.proofs.Cited.{Ends-map, Tells-map, Tells-memory, only_in}
 use Rattle.searches.proofs.trial.trial.Goals as goal
 
 pub returns-in-Ok : goal.returns-in-Ok

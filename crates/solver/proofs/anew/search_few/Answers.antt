@@ -1,7 +1,8 @@
-use Rattle.pgraph.specs.View.{node_of}
-use Rattle.tree_rules.specs.Past.{IsPastAt}
-use Rattle.abb_search.proofs.StepLemmas.{passes_positive, best_passes, against_after}
-use Rattle.abb_search.proofs.RootLemmas.{root_after, root_positive}
+use Rattle.flow_evaluator.specs.pgraph.View.{node_of}
+use Rattle.flow_evaluator.specs.tree_rules.Past.{IsPastAt}
+use Rattle.rank_search.proofs.abb_search.Cited.{passes_positive, best_passes, against_after}
+use Rattle.rank_search.proofs.abb_search.Cited.{root_after}
+use Rattle.rank_search.proofs.abb_search.Cited.{root_positive}
 use Rattle.std.proofs.Common.{true, arith}
 use Rattle.solver.proofs.anew.search_few.Goals as goal
 

@@ -1,5 +1,5 @@
-use Rattle.pgraph.specs.View.{node_of}
-use Rattle.tree_rules.specs.Past.{IsPastAt}
+use Rattle.flow_evaluator.specs.pgraph.View.{node_of}
+use Rattle.flow_evaluator.specs.tree_rules.Past.{IsPastAt}
 use Rattle.solver.proofs.AnewLemmas.{against_anew}
 use Rattle.solver.proofs.anew.search_flows.Goals as goal
 

@@ -1,6 +1,6 @@
 use Rattle.std.proofs.Common.{subst}
 use Rattle.std.specs.Prelude.{IfOk, IfErr}
-use Rattle.report_rules.specs.Range.{IsRange}
+use Rattle.stability_laws.specs.report_rules.Range.{IsRange}
 use Rattle.stability.specs.Case.{Case}
 use Rattle.stability.specs.Refusal.{IsRefusal}
 use Rattle.stability.proofs.answer.range.Goals as goal

@@ -1,9 +1,9 @@
 use Rattle.std.proofs.Common.{to_z, of_z}
 use Rattle.std.specs.Int.{w128}
-use Rattle.number_sets.specs.Sets.{has}
-use Rattle.flow_rules.specs.Net.{net_of, beside}
-use Rattle.flow_rules.specs.Flows.{cost}
-use Rattle.flow_rules.specs.CostSteps.{cost_steps}
+use Rattle.stability_laws.specs.number_sets.Sets.{has}
+use Rattle.stability_laws.specs.flow_rules.Net.{net_of, beside}
+use Rattle.stability_laws.specs.flow_rules.Flows.{cost}
+use Rattle.stability_laws.specs.flow_rules.CostSteps.{cost_steps}
 use Rattle.stability.proofs.CostLemmas.{cost_in_range}
 use Rattle.stability.proofs.costs.cost_in.Goals as goal
 

@@ -1,9 +1,9 @@
 use Rattle.std.proofs.Common.{◌≡◌, subst}
-use Rattle.number_sets.specs.Sets.{has}
-use Rattle.pns_rules.specs.Nodes.{Node}
-use Rattle.pgraph.specs.View.{node_of}
-use Rattle.tree_rules.specs.Accepted.{first_node}
-use Rattle.abb_search.specs.Found.{IsFound}
+use Rattle.stability_laws.specs.number_sets.Sets.{has}
+use Rattle.stability_laws.specs.pns_rules.Nodes.{Node}
+use Rattle.solver.specs.pgraph.View.{node_of}
+use Rattle.stability_laws.specs.tree_rules.Accepted.{first_node}
+use Rattle.solver.specs.abb_search.Found.{IsFound}
 use Rattle.stability.proofs.desk.search_at.Goals as goal
 
 pub returns-in-Ok-clause-found : goal.returns-in-Ok-clause-found

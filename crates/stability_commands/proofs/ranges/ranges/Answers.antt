@@ -1,13 +1,13 @@
 use Rattle.std.proofs.Common.{◌≡◌, ℕ, List}
-use Rattle.studio_rules.specs.Reading.{TwoFilesSay}
-use Rattle.studio_rules.specs.HeadedFile.{AnyHead, OnHeaded, HeadedSays}
-use Rattle.studio_rules.specs.Network.{OnNetwork}
-use Rattle.studio_rules.specs.StableTable.{RangesWork}
-use Rattle.studio_rules.specs.Ending.{Says}
-use Rattle.studio_rules.specs.declared.status.Status.{Status}
-use Rattle.command_files.proofs.Ending.{Ends-map, Ends-from}
-use Rattle.command_files.proofs.Seconds.{on_both-faults, on_both-work}
-use Rattle.command_files.proofs.Keeping.{keeps_through}
+use Rattle.network_commands.specs.studio_rules.Reading.{TwoFilesSay}
+use Rattle.network_commands.specs.studio_rules.HeadedFile.{AnyHead, OnHeaded, HeadedSays}
+use Rattle.network_commands.specs.studio_rules.Network.{OnNetwork}
+use Rattle.network_commands.specs.studio_rules.StableTable.{RangesWork}
+use Rattle.network_commands.specs.studio_rules.Ending.{Says}
+use Rattle.network_commands.specs.studio_rules.declared.status.Status.{Status}
+use Rattle.network_commands.proofs.command_files.Cited.{Ends-map, Ends-from, on_both-faults}
+use Rattle.network_commands.proofs.command_files.Cited.{on_both-work}
+use Rattle.network_commands.proofs.command_files.Cited.{keeps_through}
 use Rattle.stability_commands.proofs.ranges.ranges.Goals as goal
 
 pub returns-in-Ok-clause-ends : goal.returns-in-Ok-clause-ends

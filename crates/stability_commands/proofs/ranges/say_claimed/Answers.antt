@@ -1,11 +1,11 @@
 use Rattle.std.proofs.Common.{subst, inl, inr, ℕ, List}
-use Rattle.problem_rules.specs.Problem.{Problem}
-use Rattle.branch_tree.specs.View.{claim_of}
-use Rattle.studio_rules.specs.Network.{OnNetwork, ClaimRefusal}
-use Rattle.studio_rules.specs.StableTable.{RangesWork}
-use Rattle.studio_rules.specs.Ending.{Ends, Tells}
-use Rattle.studio_rules.specs.declared.status.Status.{Status}
-use Rattle.command_files.proofs.Ending.{Ends-map, Ends-from, Tells-map}
+use Rattle.stability.specs.problem_rules.Problem.{Problem}
+use Rattle.stability.specs.branch_tree.View.{claim_of}
+use Rattle.network_commands.specs.studio_rules.Network.{OnNetwork, ClaimRefusal}
+use Rattle.network_commands.specs.studio_rules.StableTable.{RangesWork}
+use Rattle.network_commands.specs.studio_rules.Ending.{Ends, Tells}
+use Rattle.network_commands.specs.studio_rules.declared.status.Status.{Status}
+use Rattle.network_commands.proofs.command_files.Cited.{Ends-map, Ends-from, Tells-map}
 use Rattle.stability_commands.proofs.ranges.say_claimed.Goals as goal
 
 pub returns-in-Ok-network_of : goal.returns-in-Ok-network_of

@@ -1,17 +1,18 @@
 use Rattle.std.proofs.Common.{◌∙◌, [], length, subst, sym, refl, inl, ℕ, List, codes}
-use Rattle.number_sets.specs.Sets.{AreBelow}
-use Rattle.number_sets.proofs.SetLemmas.{below_from}
-use Rattle.problem_rules.specs.Problem.{Problem}
+use Rattle.stability.specs.number_sets.Sets.{AreBelow}
+use Rattle.stability.proofs.number_sets.Cited.{below_from}
+use Rattle.stability.specs.problem_rules.Problem.{Problem}
 use Rattle.stability_commands.specs.Table.{IsTableFault}
 use Rattle.stability_commands.specs.declared.cells.TableFault.TheVariants as faults
-use Rattle.studio_rules.specs.Lines.{line}
-use Rattle.studio_rules.specs.Stable.{not_best_lines}
-use Rattle.studio_rules.specs.StableTable.{RangesWork}
-use Rattle.studio_rules.specs.Printed.{OneAnswer}
-use Rattle.studio_rules.specs.Ending.{Ends, Tells}
-use Rattle.studio_rules.specs.declared.status.Status.{Status}
-use Rattle.studio_rules.specs.declared.status.Status.TheVariants.{Done, NotBest, Memory}
-use Rattle.command_files.proofs.Ending.{Ends-map, Tells-map, only_in}
+use Rattle.network_commands.specs.studio_rules.Lines.{line}
+use Rattle.network_commands.specs.studio_rules.Stable.{not_best_lines}
+use Rattle.network_commands.specs.studio_rules.StableTable.{RangesWork}
+use Rattle.network_commands.specs.studio_rules.Printed.{OneAnswer}
+use Rattle.network_commands.specs.studio_rules.Ending.{Ends, Tells}
+use Rattle.network_commands.specs.studio_rules.declared.status.Status.{Status}
+use Rattle.network_commands.specs.studio_rules.declared.status.Status.TheVariants.{Done, NotBest}
+use Rattle.network_commands.specs.studio_rules.declared.status.Status.TheVariants.{Memory}
+use Rattle.network_commands.proofs.command_files.Cited.{Ends-map, Tells-map, only_in}
 use Rattle.stability_commands.proofs.RangeRows.{ranges_not_best}
 use Rattle.stability_commands.proofs.ranges.say_table.Goals as goal
 

@@ -1,13 +1,14 @@
 use Rattle.std.proofs.Common.{◌≡◌, inl, inr, ℕ, List}
-use Rattle.branch_tree.specs.View.{claim_of}
-use Rattle.tree_reading.specs.Said.{said_by}
-use Rattle.studio_rules.specs.HeadedFile.{AnyHead, OnHeaded, HeadedFault, HeadedSays}
-use Rattle.studio_rules.specs.Network.{OnNetwork}
-use Rattle.studio_rules.specs.StableTable.{RangesWork}
-use Rattle.studio_rules.specs.Ending.{Says}
-use Rattle.studio_rules.specs.declared.status.Status.{Status}
-use Rattle.command_files.proofs.Ending.{Ends-map, Ends-from, Says-told}
-use Rattle.command_files.proofs.Seconds.{on_second-faults}
+use Rattle.stability.specs.branch_tree.View.{claim_of}
+use Rattle.network_commands.specs.tree_reading.Said.{said_by}
+use Rattle.network_commands.specs.studio_rules.HeadedFile.{AnyHead, OnHeaded, HeadedFault}
+use Rattle.network_commands.specs.studio_rules.HeadedFile.{HeadedSays}
+use Rattle.network_commands.specs.studio_rules.Network.{OnNetwork}
+use Rattle.network_commands.specs.studio_rules.StableTable.{RangesWork}
+use Rattle.network_commands.specs.studio_rules.Ending.{Says}
+use Rattle.network_commands.specs.studio_rules.declared.status.Status.{Status}
+use Rattle.network_commands.proofs.command_files.Cited.{Ends-map, Ends-from, Says-told}
+use Rattle.network_commands.proofs.command_files.Cited.{on_second-faults}
 use Rattle.stability_commands.proofs.ranges.say_tree.Goals as goal
 
 pub returns-in-Ok-clause-ends : goal.returns-in-Ok-clause-ends

@@ -1,8 +1,8 @@
 use Rattle.std.proofs.Common.{◌≡◌, ◌∙◌, ◌++◌, map}
-use Rattle.number_sets.specs.Sets.{has}
-use Rattle.flow_rules.specs.Net.{net_of, materials_of}
-use Rattle.report_rules.specs.declared.spot.Spot.TheVariants.{Price}
-use Rattle.report_tables.proofs.Pieces.{next_row, last_row}
+use Rattle.stability.specs.number_sets.Sets.{has}
+use Rattle.stability.specs.flow_rules.Net.{net_of, materials_of}
+use Rattle.stability.specs.report_rules.declared.spot.Spot.TheVariants.{Price}
+use Rattle.network_commands.proofs.report_tables.Cited.{next_row, last_row}
 use Rattle.stability_commands.proofs.spots.price_spots.Goals as goal
 
 pub loop-x-init : goal.loop-x-init

@@ -1,7 +1,7 @@
 use Rattle.std.proofs.Common.{◌≡◌, ◌++◌, map}
-use Rattle.number_sets.specs.Sets.{has}
-use Rattle.flow_rules.specs.Net.{net_of, materials_of}
-use Rattle.report_rules.specs.declared.spot.Spot.TheVariants.{Price}
+use Rattle.stability.specs.number_sets.Sets.{has}
+use Rattle.stability.specs.flow_rules.Net.{net_of, materials_of}
+use Rattle.stability.specs.report_rules.declared.spot.Spot.TheVariants.{Price}
 use Rattle.stability_commands.proofs.spots.price_spots.Given as goal
 
 -- the spots so far and those of the materials that are left are all

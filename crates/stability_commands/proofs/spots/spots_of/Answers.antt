@@ -1,6 +1,6 @@
 use Rattle.std.proofs.Common.{◌≡◌, ◌∙◌, ◌++◌}
 use Rattle.std.specs.Prelude.{flat_map}
-use Rattle.studio_rules.specs.StableTable.{cost_spots}
+use Rattle.network_commands.specs.studio_rules.StableTable.{cost_spots}
 use Rattle.stability_commands.proofs.RangeRows.{next_items, last_items}
 use Rattle.stability_commands.proofs.spots.spots_of.Goals as goal
 

@@ -1,6 +1,6 @@
 use Rattle.std.proofs.Common.{◌≡◌, ◌++◌}
 use Rattle.std.specs.Prelude.{flat_map}
-use Rattle.studio_rules.specs.StableTable.{cost_spots, spots_of}
+use Rattle.network_commands.specs.studio_rules.StableTable.{cost_spots, spots_of}
 use Rattle.stability_commands.proofs.spots.spots_of.Given as goal
 
 -- the spots so far and those of the units that are left are all

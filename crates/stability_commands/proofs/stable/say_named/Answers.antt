@@ -1,12 +1,12 @@
 use Rattle.std.proofs.Common.{◌∷◌, [], refl, sym, subst, codes, ℕ, List, Option}
-use Rattle.branch_tree.specs.View.{claim_of}
-use Rattle.report_rules.specs.declared.spot.Spot.{Spot}
-use Rattle.studio_rules.specs.Network.{OnNetwork}
-use Rattle.studio_rules.specs.Stable.{SpotWork, NamedWork}
-use Rattle.studio_rules.specs.Lines.{text_of}
-use Rattle.studio_rules.specs.Ending.{Tells}
-use Rattle.studio_rules.specs.declared.status.Status.TheVariants.{UnknownName}
-use Rattle.command_files.proofs.Ending.{Ends-map, Tells-map, only_in}
+use Rattle.stability.specs.branch_tree.View.{claim_of}
+use Rattle.stability.specs.report_rules.declared.spot.Spot.{Spot}
+use Rattle.network_commands.specs.studio_rules.Network.{OnNetwork}
+use Rattle.network_commands.specs.studio_rules.Stable.{SpotWork, NamedWork}
+use Rattle.network_commands.specs.studio_rules.Lines.{text_of}
+use Rattle.network_commands.specs.studio_rules.Ending.{Tells}
+use Rattle.network_commands.specs.studio_rules.declared.status.Status.TheVariants.{UnknownName}
+use Rattle.network_commands.proofs.command_files.Cited.{Ends-map, Tells-map, only_in}
 use Rattle.stability_commands.proofs.stable.say_named.Goals as goal
 
 pub returns-in-Some : goal.returns-in-Some

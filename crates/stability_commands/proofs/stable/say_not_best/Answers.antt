@@ -1,11 +1,11 @@
 use Rattle.std.proofs.Common.{refl}
-use Rattle.text_rules.specs.State.{OutputsState}
-use Rattle.studio_rules.specs.declared.status.Status.TheVariants.{NotBest, WriteFault}
-use Rattle.studio_rules.specs.Printed.{OneAnswer}
-use Rattle.studio_rules.specs.Ending.{Tells}
-use Rattle.command_files.proofs.Ending.{Ends-from}
-use Rattle.command_files.proofs.Printing.{printed_first}
-use Rattle.studio_rules.specs.Stable.{not_best_lines}
+use Rattle.stability.specs.text_rules.State.{OutputsState}
+use Rattle.network_commands.specs.studio_rules.declared.status.Status.TheVariants.{NotBest}
+use Rattle.network_commands.specs.studio_rules.declared.status.Status.TheVariants.{WriteFault}
+use Rattle.network_commands.specs.studio_rules.Printed.{OneAnswer}
+use Rattle.network_commands.specs.studio_rules.Ending.{Tells}
+use Rattle.network_commands.proofs.command_files.Cited.{Ends-from, printed_first}
+use Rattle.network_commands.specs.studio_rules.Stable.{not_best_lines}
 use Rattle.stability_commands.proofs.Printed.{not_best_whole, not_best_front}
 use Rattle.stability_commands.proofs.stable.say_not_best.Goals as goal
 

@@ -1,11 +1,11 @@
 use Rattle.std.proofs.Common.{SFits, rules, refl}
 use Rattle.std.specs.Int.{w64}
 use Rattle.std.proofs.lemmas.Int.{to_z-of_z}
-use Rattle.studio_rules.specs.Stable.{past_cost_lines}
-use Rattle.studio_rules.specs.Printed.{OneAnswer}
-use Rattle.studio_rules.specs.Ending.{Tells}
-use Rattle.studio_rules.specs.declared.status.Status.TheVariants.{Past}
-use Rattle.command_files.proofs.Ending.{Ends-from}
+use Rattle.network_commands.specs.studio_rules.Stable.{past_cost_lines}
+use Rattle.network_commands.specs.studio_rules.Printed.{OneAnswer}
+use Rattle.network_commands.specs.studio_rules.Ending.{Tells}
+use Rattle.network_commands.specs.studio_rules.declared.status.Status.TheVariants.{Past}
+use Rattle.network_commands.proofs.command_files.Cited.{Ends-from}
 use Rattle.stability_commands.proofs.stable.say_past_cost.Goals as goal
 
 pub returns : goal.returns

@@ -1,15 +1,15 @@
 use Rattle.std.proofs.Common.{List, subst, sym, refl}
-use Rattle.problem_rules.specs.Problem.{Problem}
-use Rattle.tree_rules.specs.Claim.{Network, IsFeasible}
-use Rattle.tree_text_rules.specs.Line.{Token}
-use Rattle.report_rules.specs.declared.side.Side.TheVariants.{Below, Above}
-use Rattle.report_rules.specs.Spot.{KnowsSpot}
-use Rattle.report_rules.specs.Range.{IsRange}
+use Rattle.stability.specs.problem_rules.Problem.{Problem}
+use Rattle.stability.specs.tree_rules.Claim.{Network, IsFeasible}
+use Rattle.stability.specs.tree_text_rules.Line.{Token}
+use Rattle.stability.specs.report_rules.declared.side.Side.TheVariants.{Below, Above}
+use Rattle.stability.specs.report_rules.Spot.{KnowsSpot}
+use Rattle.stability.specs.report_rules.Range.{IsRange}
 use Rattle.stability.specs.Refusal.{IsRefusal}
-use Rattle.studio_rules.specs.Stable.{range_lines, SpotWork}
-use Rattle.studio_rules.specs.Printed.{OneAnswer}
-use Rattle.studio_rules.specs.declared.status.Status.TheVariants.{Done}
-use Rattle.command_files.proofs.Ending.{Tells-map, Ends-from}
+use Rattle.network_commands.specs.studio_rules.Stable.{range_lines, SpotWork}
+use Rattle.network_commands.specs.studio_rules.Printed.{OneAnswer}
+use Rattle.network_commands.specs.studio_rules.declared.status.Status.TheVariants.{Done}
+use Rattle.network_commands.proofs.command_files.Cited.{Tells-map, Ends-from}
 use Rattle.stability_commands.proofs.Told.{knows_beyond, range_told}
 use Rattle.stability_commands.proofs.stable.say_range.Goals as goal
 

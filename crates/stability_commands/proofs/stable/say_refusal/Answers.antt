@@ -1,16 +1,16 @@
 use Rattle.std.proofs.Common.{length, subst, SFits, rules}
 use Rattle.std.specs.Int.{w64}
 use Rattle.std.proofs.lemmas.Int.{to_z-of_z}
-use Rattle.number_sets.proofs.SetLemmas.{below_from}
-use Rattle.abb_search.specs.declared.outcome.Found.TheVariants as founds
-use Rattle.report_rules.specs.Spot.{valued}
+use Rattle.stability.proofs.number_sets.Cited.{below_from}
+use Rattle.stability.specs.abb_search.declared.outcome.Found.TheVariants as founds
+use Rattle.stability.specs.report_rules.Spot.{valued}
 use Rattle.stability.specs.declared.outcome.RangeFault.TheVariants.{NotBest, Spent, Past, PastCost}
 use Rattle.stability.specs.Refusal.{IsRefusal}
-use Rattle.studio_rules.specs.Ending.{Tells}
-use Rattle.studio_rules.specs.Printed.{OneAnswer}
-use Rattle.studio_rules.specs.declared.status.Status.TheVariants as statuses
-use Rattle.command_files.proofs.Ending.{Ends-map, Tells-map, Tells-memory, only_in}
-use Rattle.studio_rules.specs.Stable.{not_best_lines, past_cost_lines, SpotWork}
+use Rattle.network_commands.specs.studio_rules.Ending.{Tells}
+use Rattle.network_commands.specs.studio_rules.Printed.{OneAnswer}
+use Rattle.network_commands.specs.studio_rules.declared.status.Status.TheVariants as statuses
+use Rattle.network_commands.proofs.command_files.Cited.{Ends-map, Tells-map, Tells-memory, only_in}
+use Rattle.network_commands.specs.studio_rules.Stable.{not_best_lines, past_cost_lines, SpotWork}
 use Rattle.stability_commands.specs.Beyond.{StopSays}
 use Rattle.stability_commands.proofs.Told.{not_best_told, past_cost_told, spent_told, past_told}
 use Rattle.stability_commands.proofs.stable.say_refusal.Goals as goal

@@ -1,17 +1,18 @@
 use Rattle.std.proofs.Common.{◌≡◌, ◌∷◌, ◌∙◌, sym, subst, List, SFits, rules, refl}
 use Rattle.std.specs.Int.{w64}
 use Rattle.std.proofs.lemmas.Int.{to_z-of_z}
-use Rattle.problem_rules.specs.Problem.{Problem}
-use Rattle.tree_text_rules.specs.Line.{Token}
-use Rattle.tree_text_rules.specs.Read.{Certificate}
-use Rattle.tree_text_rules.specs.Spelling.{tree_text_lines}
-use Rattle.studio_rules.specs.Ending.{Tells}
-use Rattle.studio_rules.specs.Printed.{OneAnswer}
-use Rattle.studio_rules.specs.declared.status.Status.TheVariants.{Memory}
-use Rattle.command_files.proofs.Ending.{Ends-map, Tells-map, Tells-memory, only_in, Ends-from}
-use Rattle.searches.proofs.FoundTexts.{CanPrint, is_printing}
-use Rattle.report_rules.specs.Spot.{valued}
-use Rattle.studio_rules.specs.Stable.{at_line}
+use Rattle.stability.specs.problem_rules.Problem.{Problem}
+use Rattle.stability.specs.tree_text_rules.Line.{Token}
+use Rattle.stability.specs.tree_text_rules.Read.{Certificate}
+use Rattle.stability.specs.tree_text_rules.Spelling.{tree_text_lines}
+use Rattle.network_commands.specs.studio_rules.Ending.{Tells}
+use Rattle.network_commands.specs.studio_rules.Printed.{OneAnswer}
+use Rattle.network_commands.specs.studio_rules.declared.status.Status.TheVariants.{Memory}
+use Rattle.network_commands.proofs.command_files.Cited.{Ends-map, Tells-map, Tells-memory, only_in}
+use Rattle.network_commands.proofs.command_files.Cited.{Ends-from}
+use Rattle.searches.proofs.Cited.{CanPrint, is_printing}
+use Rattle.stability.specs.report_rules.Spot.{valued}
+use Rattle.network_commands.specs.studio_rules.Stable.{at_line}
 use Rattle.stability_commands.specs.Beyond.{StopSays}
 use Rattle.stability_commands.proofs.Told.{can_print_there, stop_says}
 use Rattle.stability_commands.proofs.stable.say_stopped.Goals as goal

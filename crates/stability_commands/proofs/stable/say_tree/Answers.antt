@@ -1,14 +1,15 @@
 use Rattle.std.proofs.Common.{◌≡◌, ap, sym, subst, IfSome, inl, inr, ℕ, List, Option}
-use Rattle.branch_tree.specs.View.{claim_of}
-use Rattle.tree_reading.specs.Said.{said_by}
-use Rattle.studio_rules.specs.HeadedFile.{AnyHead, OnHeaded, HeadedFault, HeadedSays}
-use Rattle.report_rules.specs.declared.spot.Spot.{Spot}
-use Rattle.report_rules.specs.Spot.{KnowsSpot}
-use Rattle.studio_rules.specs.Stable.{NamedWork, StableWork}
-use Rattle.studio_rules.specs.Ending.{Says, Tells}
-use Rattle.studio_rules.specs.declared.status.Status.{Status}
-use Rattle.command_files.proofs.Ending.{Ends-map, Ends-from, Says-told}
-use Rattle.command_files.proofs.Seconds.{on_second-faults}
+use Rattle.stability.specs.branch_tree.View.{claim_of}
+use Rattle.network_commands.specs.tree_reading.Said.{said_by}
+use Rattle.network_commands.specs.studio_rules.HeadedFile.{AnyHead, OnHeaded, HeadedFault}
+use Rattle.network_commands.specs.studio_rules.HeadedFile.{HeadedSays}
+use Rattle.stability.specs.report_rules.declared.spot.Spot.{Spot}
+use Rattle.stability.specs.report_rules.Spot.{KnowsSpot}
+use Rattle.network_commands.specs.studio_rules.Stable.{NamedWork, StableWork}
+use Rattle.network_commands.specs.studio_rules.Ending.{Says, Tells}
+use Rattle.network_commands.specs.studio_rules.declared.status.Status.{Status}
+use Rattle.network_commands.proofs.command_files.Cited.{Ends-map, Ends-from, Says-told}
+use Rattle.network_commands.proofs.command_files.Cited.{on_second-faults}
 use Rattle.stability_commands.proofs.Named.{spot_known}
 use Rattle.stability_commands.proofs.stable.say_tree.Goals as goal
 

@@ -1,5 +1,5 @@
 use Rattle.std.proofs.Common.{◌≡◌, drop}
-use Rattle.studio_rules.specs.StableTable.{has_open}
+use Rattle.network_commands.specs.studio_rules.StableTable.{has_open}
 use Rattle.stability_commands.proofs.table.has_open.Given as goal
 
 abbrev pub invariant-rows : goal.invariant-rows

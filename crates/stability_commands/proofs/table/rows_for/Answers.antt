@@ -1,8 +1,8 @@
 use Rattle.std.proofs.Common.{◌+◌, sym, subst, drop, length, arith}
 use Rattle.std.proofs.lemmas.List.{drop_all, drop_more}
-use Rattle.problem_rules.specs.Each.{Each}
-use Rattle.report_rules.specs.declared.spot.Spot.TheVariants.{Price}
-use Rattle.report_rules.specs.Spot.{KnowsSpot}
+use Rattle.stability.specs.problem_rules.Each.{Each}
+use Rattle.stability.specs.report_rules.declared.spot.Spot.TheVariants.{Price}
+use Rattle.stability.specs.report_rules.Spot.{KnowsSpot}
 use Rattle.stability_commands.proofs.RangeRows.{GoOn, row_more, rows_whole}
 use Rattle.stability_commands.proofs.table.rows_for.Goals as goal
 

@@ -1,6 +1,6 @@
 use Rattle.std.proofs.Common.{drop}
-use Rattle.problem_rules.specs.Each.{Each}
-use Rattle.report_rules.specs.Spot.{KnowsSpot}
+use Rattle.stability.specs.problem_rules.Each.{Each}
+use Rattle.stability.specs.report_rules.Spot.{KnowsSpot}
 use Rattle.stability_commands.proofs.RangeRows.{GoOn}
 use Rattle.stability_commands.proofs.table.rows_for.Given as goal
 

@@ -1,7 +1,7 @@
 use Rattle.std.proofs.Common.{◌∙◌, sym, subst, List}
-use Rattle.problem_rules.specs.Each.{Each}
-use Rattle.report_rules.specs.declared.spot.Spot.{Spot}
-use Rattle.report_rules.specs.Spot.{KnowsSpot}
+use Rattle.stability.specs.problem_rules.Each.{Each}
+use Rattle.stability.specs.report_rules.declared.spot.Spot.{Spot}
+use Rattle.stability.specs.report_rules.Spot.{KnowsSpot}
 use Rattle.stability_commands.proofs.RangeRows.{all_known}
 use Rattle.stability_commands.proofs.table.rows_of.Goals as goal
 

@@ -1,6 +1,6 @@
 use Rattle.std.proofs.Common.{◌∙◌, ap, refl, List, ℕ}
-use Rattle.studio_rules.specs.Lines.{text_of}
-use Rattle.studio_rules.specs.StableTable.{range_table}
+use Rattle.network_commands.specs.studio_rules.Lines.{text_of}
+use Rattle.network_commands.specs.studio_rules.StableTable.{range_table}
 use Rattle.stability_commands.proofs.table.table_of.Goals as goal
 
 pub returns-clause-table : goal.returns-clause-table

@@ -1,7 +1,7 @@
 use Rattle.std.proofs.Common.{SFits, rules}
 use Rattle.std.specs.Int.{w64}
 use Rattle.std.proofs.lemmas.Int.{to_z-of_z}
-use Rattle.command_files.proofs.Printing.{two_printed, part_failed}
+use Rattle.network_commands.proofs.command_files.Cited.{two_printed, part_failed}
 use Rattle.stability_commands.proofs.text.print_range.Goals as goal
 
 pub returns-in-Ok-clause-prints : goal.returns-in-Ok-clause-prints

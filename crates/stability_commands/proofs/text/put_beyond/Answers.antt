@@ -1,7 +1,7 @@
 use Rattle.std.proofs.Common.{◌∷◌, [], codes, sym, subst, Option}
-use Rattle.tree_rules.specs.Claim.{Network}
-use Rattle.tree_text.specs.Prints.{Prints}
-use Rattle.studio_rules.specs.Stable.{side_word, beyond_lines}
+use Rattle.stability.specs.tree_rules.Claim.{Network}
+use Rattle.network_commands.specs.tree_text.Prints.{Prints}
+use Rattle.network_commands.specs.studio_rules.Stable.{side_word, beyond_lines}
 use Rattle.stability_commands.proofs.text.put_beyond.Goals as goal
 
 pub returns-in-Some-clause-prints : goal.returns-in-Some-clause-prints

@@ -1,6 +1,6 @@
 use Rattle.std.proofs.Common.{◌∷◌, []}
-use Rattle.tree_text_rules.specs.Spelling.{network_lines}
-use Rattle.command_files.proofs.Printing.{two_printed, part_failed}
+use Rattle.stability.specs.tree_text_rules.Spelling.{network_lines}
+use Rattle.network_commands.proofs.command_files.Cited.{two_printed, part_failed}
 use Rattle.stability_commands.proofs.text.put_headed.Goals as goal
 
 pub print_network-requires : goal.print_network-requires

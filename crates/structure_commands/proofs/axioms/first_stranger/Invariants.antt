@@ -1,5 +1,5 @@
 use Rattle.std.proofs.Common.{◌≡◌, drop}
-use Rattle.studio_rules.specs.Axioms.{first_stranger}
+use Rattle.command_files.specs.studio_rules.Axioms.{first_stranger}
 use Rattle.structure_commands.proofs.axioms.first_stranger.Given as goal
 
 -- the names before k are those of units

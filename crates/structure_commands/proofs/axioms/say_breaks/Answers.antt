@@ -1,9 +1,9 @@
 use Rattle.std.proofs.Common.{◌∙◌, inl, inr}
-use Rattle.studio_rules.specs.Lines.{line}
-use Rattle.studio_rules.specs.Axioms.{breaks_line}
-use Rattle.studio_rules.specs.Ending.{Only, OrMemory}
-use Rattle.studio_rules.specs.declared.status.Status.TheVariants.{Refused}
-use Rattle.command_files.proofs.Ending.{Ends-map}
+use Rattle.command_files.specs.studio_rules.Lines.{line}
+use Rattle.command_files.specs.studio_rules.Axioms.{breaks_line}
+use Rattle.command_files.specs.studio_rules.Ending.{Only, OrMemory}
+use Rattle.command_files.specs.studio_rules.declared.status.Status.TheVariants.{Refused}
+use Rattle.command_files.proofs.Cited.{Ends-map}
 use Rattle.structure_commands.proofs.axioms.say_breaks.Goals as goal
 
 pub returns-in-Ok : goal.returns-in-Ok

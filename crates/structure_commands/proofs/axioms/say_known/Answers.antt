@@ -1,11 +1,11 @@
 use Rattle.std.proofs.Common.{None, subst, ℕ, List, Bool}
-use Rattle.number_sets.specs.Sets.{has}
-use Rattle.pns_rules.specs.Shape.{Shape, shape_of}
-use Rattle.pns_rules.specs.Verdict.{Judges}
-use Rattle.studio_rules.specs.Axioms.{NamesSay, VerdictSays, units_named}
-use Rattle.studio_rules.specs.Ending.{Tells}
-use Rattle.studio_rules.specs.declared.status.Status.{Status}
-use Rattle.command_files.proofs.Ending.{Ends-map, Tells-map}
+use Rattle.text_lines.specs.number_sets.Sets.{has}
+use Rattle.cert_check.specs.pns_rules.Shape.{Shape, shape_of}
+use Rattle.cert_check.specs.pns_rules.Verdict.{Judges}
+use Rattle.command_files.specs.studio_rules.Axioms.{NamesSay, VerdictSays, units_named}
+use Rattle.command_files.specs.studio_rules.Ending.{Tells}
+use Rattle.command_files.specs.studio_rules.declared.status.Status.{Status}
+use Rattle.command_files.proofs.Cited.{Ends-map, Tells-map}
 use Rattle.structure_commands.proofs.axioms.say_known.Goals as goal
 
 pub returns : goal.returns

@@ -1,11 +1,11 @@
 use Rattle.std.proofs.Common.{◌∷◌, ◌∙◌, [], refl, sym, ap, subst, inl, ℕ, List, codes}
-use Rattle.pns_rules.specs.declared.verdict.Verdict.{Verdict}
-use Rattle.studio_rules.specs.Lines.{line}
-use Rattle.studio_rules.specs.Axioms.{VerdictSays, breaks_line, place_name}
-use Rattle.studio_rules.specs.Ending.{Tells}
-use Rattle.studio_rules.specs.declared.status.Status.{Status}
-use Rattle.studio_rules.specs.declared.status.Status.TheVariants.{Done, Refused}
-use Rattle.command_files.proofs.Ending.{Ends-map, only_in, only_or_memory_in, one_line}
+use Rattle.cert_check.specs.pns_rules.declared.verdict.Verdict.{Verdict}
+use Rattle.command_files.specs.studio_rules.Lines.{line}
+use Rattle.command_files.specs.studio_rules.Axioms.{VerdictSays, breaks_line, place_name}
+use Rattle.command_files.specs.studio_rules.Ending.{Tells}
+use Rattle.command_files.specs.studio_rules.declared.status.Status.{Status}
+use Rattle.command_files.specs.studio_rules.declared.status.Status.TheVariants.{Done, Refused}
+use Rattle.command_files.proofs.Cited.{Ends-map, only_in, only_or_memory_in, one_line}
 use Rattle.structure_commands.proofs.axioms.say_verdict.Goals as goal
 
 pub returns-in-Meets : goal.returns-in-Meets

@@ -1,6 +1,6 @@
 use Rattle.std.proofs.Common.{◌≡◌, ◌||◌, ◌<◌, ℕ, drop, length, true}
-use Rattle.number_sets.specs.Sets.{has}
-use Rattle.studio_rules.specs.Axioms.{units_named}
+use Rattle.text_lines.specs.number_sets.Sets.{has}
+use Rattle.command_files.specs.studio_rules.Axioms.{units_named}
 use Rattle.structure_commands.proofs.axioms.units_named.Given as goal
 
 -- the set so far and the names that are left give the whole set

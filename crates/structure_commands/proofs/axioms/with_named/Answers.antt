@@ -1,7 +1,7 @@
 use Rattle.std.proofs.Common.{◌||◌, ◌∙◌, ap, sym, ℕ, List, Bool, length}
-use Rattle.number_sets.specs.Sets.{has}
-use Rattle.number_sets.proofs.SetLemmas.{has-with_number}
-use Rattle.studio_rules.specs.Axioms.{is_unit}
+use Rattle.text_lines.specs.number_sets.Sets.{has}
+use Rattle.text_lines.proofs.number_sets.Cited.{has-with_number}
+use Rattle.command_files.specs.studio_rules.Axioms.{is_unit}
 use Rattle.structure_commands.proofs.Named.{named_known, with_known}
 use Rattle.structure_commands.proofs.axioms.with_named.Goals as goal
 

@@ -1,13 +1,12 @@
 use Rattle.std.proofs.Common.{◌≡◌, ap, ℕ, List}
-use Rattle.studio_rules.specs.Reading.{TwoFilesSay}
-use Rattle.studio_rules.specs.HeadedFile.{OnHeaded, HeadedSays}
-use Rattle.studio_rules.specs.Check.{CheckWork}
-use Rattle.studio_rules.specs.Ending.{Says}
-use Rattle.studio_rules.specs.declared.status.Status.{Status}
-use Rattle.command_files.proofs.Ending.{Ends-map, Ends-from}
-use Rattle.command_files.proofs.Seconds.{on_both-faults, on_both-work}
+use Rattle.command_files.specs.studio_rules.Reading.{TwoFilesSay}
+use Rattle.command_files.specs.studio_rules.HeadedFile.{OnHeaded, HeadedSays}
+use Rattle.command_files.specs.studio_rules.Check.{CheckWork}
+use Rattle.command_files.specs.studio_rules.Ending.{Says}
+use Rattle.command_files.specs.studio_rules.declared.status.Status.{Status}
+use Rattle.command_files.proofs.Cited.{Ends-map, Ends-from, on_both-faults, on_both-work}
+use Rattle.command_files.proofs.Cited.{keeps_through}
 use Rattle.structure_commands.proofs.Best.{done_ends}
-use Rattle.command_files.proofs.Keeping.{keeps_through}
 use Rattle.structure_commands.proofs.check.check.Goals as goal
 
 pub returns-in-Ok : goal.returns-in-Ok

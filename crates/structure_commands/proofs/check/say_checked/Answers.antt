@@ -1,8 +1,8 @@
 use Rattle.std.proofs.Common.{subst, ℕ, List}
-use Rattle.problem_rules.specs.Problem.{Problem}
-use Rattle.tree_reading.specs.Said.{said_by}
-use Rattle.studio_rules.specs.Check.{CheckWork}
-use Rattle.studio_rules.specs.Ending.{Ends, Tells}
+use Rattle.text_lines.specs.problem_rules.Problem.{Problem}
+use Rattle.command_files.specs.tree_reading.Said.{said_by}
+use Rattle.command_files.specs.studio_rules.Check.{CheckWork}
+use Rattle.command_files.specs.studio_rules.Ending.{Ends, Tells}
 use Rattle.structure_commands.proofs.check.say_checked.Goals as goal
 
 pub returns : goal.returns

@@ -1,15 +1,16 @@
 use Rattle.std.proofs.Common.{◌++◌, ◌∷◌, ◌∙◌, [], false, refl, ap, inl, inr, ℕ, List, codes}
-use Rattle.branch_tree.specs.View.{claim_of}
-use Rattle.tree_reading.specs.Said.{said_by}
-use Rattle.tree_rules.specs.Claim.{ClaimPasses, ClaimFails}
-use Rattle.tree_rules.specs.Headed.{head_node, HeadPasses, LineIsFault, NodeIsFaultBy}
-use Rattle.studio_rules.specs.Lines.{line}
-use Rattle.studio_rules.specs.RefusalWords.{claim_line, head_line, node_line}
-use Rattle.studio_rules.specs.Check.{CheckWork}
-use Rattle.studio_rules.specs.Ending.{Tells}
-use Rattle.studio_rules.specs.declared.status.Status.{Status}
-use Rattle.studio_rules.specs.declared.status.Status.TheVariants.{Done, Refused, Memory}
-use Rattle.command_files.proofs.Ending.{Ends-map, only_in, only_or_memory_in, one_line}
+use Rattle.cert_check.specs.branch_tree.View.{claim_of}
+use Rattle.command_files.specs.tree_reading.Said.{said_by}
+use Rattle.cert_check.specs.tree_rules.Claim.{ClaimPasses, ClaimFails}
+use Rattle.cert_check.specs.tree_rules.Headed.{head_node, HeadPasses, LineIsFault, NodeIsFaultBy}
+use Rattle.command_files.specs.studio_rules.Lines.{line}
+use Rattle.command_files.specs.studio_rules.RefusalWords.{claim_line, head_line, node_line}
+use Rattle.command_files.specs.studio_rules.Check.{CheckWork}
+use Rattle.command_files.specs.studio_rules.Ending.{Tells}
+use Rattle.command_files.specs.studio_rules.declared.status.Status.{Status}
+use Rattle.command_files.specs.studio_rules.declared.status.Status.TheVariants.{Done, Refused}
+use Rattle.command_files.specs.studio_rules.declared.status.Status.TheVariants.{Memory}
+use Rattle.command_files.proofs.Cited.{Ends-map, only_in, only_or_memory_in, one_line}
 use Rattle.structure_commands.proofs.check.say_judged.Goals as goal
 
 pub returns-in-Err-Claim : goal.returns-in-Err-Claim

@@ -1,11 +1,10 @@
 use Rattle.std.proofs.Common.{◌≡◌, ap, inl, inr, ℕ, List}
-use Rattle.tree_reading.specs.Said.{said_by}
-use Rattle.studio_rules.specs.HeadedFile.{OnHeaded, HeadedFault, HeadedSays}
-use Rattle.studio_rules.specs.Check.{CheckWork}
-use Rattle.studio_rules.specs.Ending.{Says}
-use Rattle.studio_rules.specs.declared.status.Status.{Status}
-use Rattle.command_files.proofs.Ending.{Ends-map, Ends-from, Says-told}
-use Rattle.command_files.proofs.Seconds.{on_second-faults}
+use Rattle.command_files.specs.tree_reading.Said.{said_by}
+use Rattle.command_files.specs.studio_rules.HeadedFile.{OnHeaded, HeadedFault, HeadedSays}
+use Rattle.command_files.specs.studio_rules.Check.{CheckWork}
+use Rattle.command_files.specs.studio_rules.Ending.{Says}
+use Rattle.command_files.specs.studio_rules.declared.status.Status.{Status}
+use Rattle.command_files.proofs.Cited.{Ends-map, Ends-from, Says-told, on_second-faults}
 use Rattle.structure_commands.proofs.check.say_tree.Goals as goal
 
 pub returns-in-Ok-clause-ends : goal.returns-in-Ok-clause-ends

@@ -1,10 +1,9 @@
 use Rattle.std.proofs.Common.{◌≡◌, ℕ, List, subst, sym}
-use Rattle.studio_rules.specs.Lint.{LintWork}
-use Rattle.studio_rules.specs.Reading.{AreHeld, GivesProblem, TextSays}
-use Rattle.studio_rules.specs.Ending.{Tells}
-use Rattle.studio_rules.specs.declared.status.Status.{Status}
-use Rattle.command_files.proofs.Ending.{Ends-map, Ends-from}
-use Rattle.command_files.proofs.Files.{on_text-faults, on_text-work}
+use Rattle.command_files.specs.studio_rules.Lint.{LintWork}
+use Rattle.command_files.specs.studio_rules.Reading.{AreHeld, GivesProblem, TextSays}
+use Rattle.command_files.specs.studio_rules.Ending.{Tells}
+use Rattle.command_files.specs.studio_rules.declared.status.Status.{Status}
+use Rattle.command_files.proofs.Cited.{Ends-map, Ends-from, on_text-faults, on_text-work}
 use Rattle.structure_commands.proofs.command.lint.Goals as goal
 
 pub say_warnings-requires : goal.say_warnings-requires

@@ -1,15 +1,14 @@
 use Rattle.std.proofs.Common.{◌≡◌, IfOk, [], refl, ap, subst, inl, inr, ℕ, List}
-use Rattle.problem_rules.specs.Problem.{Problem}
-use Rattle.edit_rules.specs.Script.{applied}
-use Rattle.text_rules.specs.Canonical.{canonical, canonical_lines}
-use Rattle.studio_rules.specs.Lines.{text_of}
-use Rattle.studio_rules.specs.Script.{OnScript, ScriptFault, ScriptSays, IsEdited}
-use Rattle.studio_rules.specs.Edits.{EditWork}
-use Rattle.studio_rules.specs.Ending.{Says}
-use Rattle.studio_rules.specs.declared.status.Status.{Status}
-use Rattle.studio_rules.specs.declared.status.Status.TheVariants.{Done}
-use Rattle.command_files.proofs.Ending.{Ends-map, Ends-from, only_or_memory_in}
-use Rattle.command_files.proofs.Seconds.{on_second-faults}
+use Rattle.text_lines.specs.problem_rules.Problem.{Problem}
+use Rattle.text_lines.specs.edit_rules.Script.{applied}
+use Rattle.text_lines.specs.text_rules.Canonical.{canonical, canonical_lines}
+use Rattle.command_files.specs.studio_rules.Lines.{text_of}
+use Rattle.command_files.specs.studio_rules.Script.{OnScript, ScriptFault, ScriptSays, IsEdited}
+use Rattle.command_files.specs.studio_rules.Edits.{EditWork}
+use Rattle.command_files.specs.studio_rules.Ending.{Says}
+use Rattle.command_files.specs.studio_rules.declared.status.Status.{Status}
+use Rattle.command_files.specs.studio_rules.declared.status.Status.TheVariants.{Done}
+use Rattle.command_files.proofs.Cited.{Ends-map, Ends-from, only_or_memory_in, on_second-faults}
 use Rattle.structure_commands.proofs.edits.say_edited.Goals as goal
 
 pub returns-in-Ok-clause-ends : goal.returns-in-Ok-clause-ends

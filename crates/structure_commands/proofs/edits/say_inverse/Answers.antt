@@ -1,15 +1,15 @@
 use Rattle.std.proofs.Common.{◌≡◌, IfOk, [], refl, ap, subst, inl, inr, ℕ, List}
-use Rattle.edit_rules.specs.Edit.{Script}
-use Rattle.edit_rules.specs.Script.{undoing}
-use Rattle.edit_rules.specs.Printed.{script_text}
-use Rattle.studio_rules.specs.Lines.{text_of}
-use Rattle.studio_rules.specs.Script.{OnScript, ScriptFault, ScriptSays, IsEdited, printed_lines}
-use Rattle.studio_rules.specs.Edits.{UndoWork}
-use Rattle.studio_rules.specs.Ending.{Says}
-use Rattle.studio_rules.specs.declared.status.Status.{Status}
-use Rattle.studio_rules.specs.declared.status.Status.TheVariants.{Done}
-use Rattle.command_files.proofs.Ending.{Ends-map, Ends-from, only_or_memory_in}
-use Rattle.command_files.proofs.Seconds.{on_second-faults}
+use Rattle.text_lines.specs.edit_rules.Edit.{Script}
+use Rattle.text_lines.specs.edit_rules.Script.{undoing}
+use Rattle.text_lines.specs.edit_rules.Printed.{script_text}
+use Rattle.command_files.specs.studio_rules.Lines.{text_of}
+use Rattle.command_files.specs.studio_rules.Script.{OnScript, ScriptFault, ScriptSays, IsEdited}
+use Rattle.command_files.specs.studio_rules.Script.{printed_lines}
+use Rattle.command_files.specs.studio_rules.Edits.{UndoWork}
+use Rattle.command_files.specs.studio_rules.Ending.{Says}
+use Rattle.command_files.specs.studio_rules.declared.status.Status.{Status}
+use Rattle.command_files.specs.studio_rules.declared.status.Status.TheVariants.{Done}
+use Rattle.command_files.proofs.Cited.{Ends-map, Ends-from, only_or_memory_in, on_second-faults}
 use Rattle.structure_commands.proofs.edits.say_inverse.Goals as goal
 
 pub returns-in-Ok-clause-ends : goal.returns-in-Ok-clause-ends

@@ -1,7 +1,7 @@
 use Rattle.std.proofs.Common.{◌≡◌, ◌∙◌, ap, subst, true, get_or, ℕ, List}
-use Rattle.number_sets.specs.Sets.{has}
-use Rattle.problem_rules.specs.Problem.{Exclusion}
-use Rattle.pgraph.proofs.TableLemmas.{has-get}
+use Rattle.text_lines.specs.number_sets.Sets.{has}
+use Rattle.text_lines.specs.problem_rules.Problem.{Exclusion}
+use Rattle.cert_check.proofs.pgraph.Cited.{has-get}
 use Rattle.structure_commands.proofs.exclusion.is_alone.Goals as goal
 
 pub has-requires : goal.has-requires

@@ -1,7 +1,7 @@
 use Rattle.std.proofs.Common.{◌≡◌, ◌+◌, cond, drop}
 use Rattle.std.specs.Prelude.{nat_le}
 use Rattle.std.specs.List.{count_by}
-use Rattle.number_sets.specs.Sets.{has}
+use Rattle.text_lines.specs.number_sets.Sets.{has}
 use Rattle.structure_commands.proofs.exclusion.is_alone.Given as goal
 
 -- at most one with those that are left

@@ -1,4 +1,4 @@
-use Rattle.command_files.proofs.Printing.{two_printed, part_failed}
+use Rattle.command_files.proofs.Cited.{two_printed, part_failed}
 use Rattle.structure_commands.proofs.flows.print_least.Goals as goal
 
 pub returns-in-Ok-clause-prints : goal.returns-in-Ok-clause-prints

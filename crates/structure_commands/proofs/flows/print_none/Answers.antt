@@ -1,8 +1,8 @@
-use Rattle.branch_tree.specs.View.{end_of}
-use Rattle.tree_rules.specs.Claim as claims
-use Rattle.tree_text.specs.declared.fault.PrintFault.TheVariants.{WriteFault}
-use Rattle.tree_text_rules.specs.Spelling.{claim_lines, end_with_sets}
-use Rattle.command_files.proofs.Printing.{two_printed, part_failed}
+use Rattle.cert_check.specs.branch_tree.View.{end_of}
+use Rattle.cert_check.specs.tree_rules.Claim as claims
+use Rattle.command_files.specs.tree_text.declared.fault.PrintFault.TheVariants.{WriteFault}
+use Rattle.cert_check.specs.tree_text_rules.Spelling.{claim_lines, end_with_sets}
+use Rattle.command_files.proofs.Cited.{two_printed, part_failed}
 use Rattle.structure_commands.proofs.flows.print_none.Goals as goal
 
 pub returns-in-Ok-clause-prints : goal.returns-in-Ok-clause-prints

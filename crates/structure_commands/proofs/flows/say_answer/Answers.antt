@@ -1,16 +1,17 @@
 use Rattle.std.proofs.Common.{◌++◌, ◌∷◌, [], List, refl, sym, subst, inl, inr}
-use Rattle.tree_rules.specs.Tree as trees
-use Rattle.tree_rules.specs.Leaf as leaves
-use Rattle.tree_rules.specs.Claim as claims
-use Rattle.tree_text_rules.specs.Line.{Token}
-use Rattle.tree_text_rules.specs.Spelling.{network_lines, claim_lines, end_line, place_lines}
+use Rattle.cert_check.specs.tree_rules.Tree as trees
+use Rattle.cert_check.specs.tree_rules.Leaf as leaves
+use Rattle.cert_check.specs.tree_rules.Claim as claims
+use Rattle.cert_check.specs.tree_text_rules.Line.{Token}
+use Rattle.cert_check.specs.tree_text_rules.Spelling.{network_lines, claim_lines, end_line}
+use Rattle.cert_check.specs.tree_text_rules.Spelling.{place_lines}
 use Rattle.flow_evaluator.specs.Answers.{AnswersFor, IsLeastFor, IsPastFor}
-use Rattle.tree_rules.specs.LeastFlows.{HasNoFlows}
-use Rattle.studio_rules.specs.Flows.{FlowsSay}
-use Rattle.studio_rules.specs.Printed.{OneAnswer}
-use Rattle.studio_rules.specs.declared.status.Status.{Status}
-use Rattle.studio_rules.specs.declared.status.Status.TheVariants.{Done, Past}
-use Rattle.command_files.proofs.Ending.{Ends-from, Tells-map}
+use Rattle.cert_check.specs.tree_rules.LeastFlows.{HasNoFlows}
+use Rattle.command_files.specs.studio_rules.Flows.{FlowsSay}
+use Rattle.command_files.specs.studio_rules.Printed.{OneAnswer}
+use Rattle.command_files.specs.studio_rules.declared.status.Status.{Status}
+use Rattle.command_files.specs.studio_rules.declared.status.Status.TheVariants.{Done, Past}
+use Rattle.command_files.proofs.Cited.{Ends-from, Tells-map}
 use Rattle.structure_commands.proofs.flows.say_answer.Goals as goal
 
 pub returns-in-Least : goal.returns-in-Least

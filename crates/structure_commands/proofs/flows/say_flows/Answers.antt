@@ -1,12 +1,12 @@
 use Rattle.std.proofs.Common.{◌∷◌, [], refl, subst, inl, ℕ, List, Option}
-use Rattle.pns_rules.specs.declared.verdict.Axiom.TheVariants.{S3}
-use Rattle.studio_rules.specs.Lines.{line}
-use Rattle.studio_rules.specs.Axioms.{breaks_line}
-use Rattle.studio_rules.specs.Flows.{FlowsWork, FlowNamesSay}
-use Rattle.studio_rules.specs.Ending.{Tells}
-use Rattle.studio_rules.specs.declared.status.Status.{Status}
-use Rattle.studio_rules.specs.declared.status.Status.TheVariants.{Refused}
-use Rattle.command_files.proofs.Ending.{Ends-map, only_or_memory_in, one_line, Tells-map}
+use Rattle.cert_check.specs.pns_rules.declared.verdict.Axiom.TheVariants.{S3}
+use Rattle.command_files.specs.studio_rules.Lines.{line}
+use Rattle.command_files.specs.studio_rules.Axioms.{breaks_line}
+use Rattle.command_files.specs.studio_rules.Flows.{FlowsWork, FlowNamesSay}
+use Rattle.command_files.specs.studio_rules.Ending.{Tells}
+use Rattle.command_files.specs.studio_rules.declared.status.Status.{Status}
+use Rattle.command_files.specs.studio_rules.declared.status.Status.TheVariants.{Refused}
+use Rattle.command_files.proofs.Cited.{Ends-map, only_or_memory_in, one_line, Tells-map}
 use Rattle.structure_commands.proofs.flows.say_flows.Goals as goal
 
 pub returns-in-Some : goal.returns-in-Some

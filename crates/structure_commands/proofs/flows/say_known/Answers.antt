@@ -1,17 +1,17 @@
 use Rattle.std.proofs.Common.{◌≡◌, ℕ, Bool, List, None, length, refl, subst, sym}
-use Rattle.number_sets.specs.Sets.{has, IsSet}
-use Rattle.problem_rules.specs.Problem.{Problem}
-use Rattle.pns_rules.specs.Shape.{Shape, shape_of}
-use Rattle.pns_rules.specs.Verdict.{Judges}
-use Rattle.pns_rules.specs.declared.verdict.Verdict.{Verdict}
-use Rattle.pns_rules.specs.declared.verdict.Verdict.TheVariants.{Meets, Breaks}
-use Rattle.studio_rules.specs.Axioms.{VerdictSays, units_named}
-use Rattle.studio_rules.specs.Flows.{FlowsSay, FlowNamesSay, UnitsSay}
-use Rattle.studio_rules.specs.declared.status.Status.{Status}
-use Rattle.tree_rules.specs.Known.{AreUnits}
-use Rattle.studio_rules.specs.Ending.{Ends, Tells}
-use Rattle.command_files.proofs.Ending.{Ends-map, Tells-map}
-use Rattle.number_sets.proofs.SetLemmas.{below_from}
+use Rattle.text_lines.specs.number_sets.Sets.{has, IsSet}
+use Rattle.text_lines.specs.problem_rules.Problem.{Problem}
+use Rattle.cert_check.specs.pns_rules.Shape.{Shape, shape_of}
+use Rattle.cert_check.specs.pns_rules.Verdict.{Judges}
+use Rattle.cert_check.specs.pns_rules.declared.verdict.Verdict.{Verdict}
+use Rattle.cert_check.specs.pns_rules.declared.verdict.Verdict.TheVariants.{Meets, Breaks}
+use Rattle.command_files.specs.studio_rules.Axioms.{VerdictSays, units_named}
+use Rattle.command_files.specs.studio_rules.Flows.{FlowsSay, FlowNamesSay, UnitsSay}
+use Rattle.command_files.specs.studio_rules.declared.status.Status.{Status}
+use Rattle.cert_check.specs.tree_rules.Known.{AreUnits}
+use Rattle.command_files.specs.studio_rules.Ending.{Ends, Tells}
+use Rattle.command_files.proofs.Cited.{Ends-map, Tells-map}
+use Rattle.text_lines.proofs.number_sets.Cited.{below_from}
 use Rattle.structure_commands.proofs.flows.say_known.Goals as goal
 
 pub say_structure-requires-clause-known : goal.say_structure-requires-clause-known

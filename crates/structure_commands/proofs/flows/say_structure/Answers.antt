@@ -1,7 +1,7 @@
 use Rattle.std.proofs.Common.{subst}
-use Rattle.problem_rules.specs.Problem.{Problem}
-use Rattle.studio_rules.specs.Flows.{FlowsSay}
-use Rattle.studio_rules.specs.Ending.{Ends, Tells}
+use Rattle.text_lines.specs.problem_rules.Problem.{Problem}
+use Rattle.command_files.specs.studio_rules.Flows.{FlowsSay}
+use Rattle.command_files.specs.studio_rules.Ending.{Ends, Tells}
 use Rattle.structure_commands.proofs.flows.say_structure.Goals as goal
 
 pub returns-in-Ok : goal.returns-in-Ok

@@ -1,6 +1,6 @@
 use Rattle.std.proofs.Common.{◌≡◌, drop}
-use Rattle.problem_rules.specs.Problem.{exclusion_names}
-use Rattle.report_rules.specs.Item.{number_of, number_from}
+use Rattle.text_lines.specs.problem_rules.Problem.{exclusion_names}
+use Rattle.command_files.specs.report_rules.Item.{number_of, number_from}
 use Rattle.structure_commands.proofs.item.exclusion_number.Given as goal
 
 abbrev pub invariant-looking : goal.invariant-looking

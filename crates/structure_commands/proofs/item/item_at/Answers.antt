@@ -1,10 +1,10 @@
 use Rattle.std.proofs.Common.{◌∙◌, ap, sym, option_map, ℕ, List}
-use Rattle.problem_rules.specs.Problem.{OperatingUnit, unit_names}
-use Rattle.problem_rules.specs.Names.{is_among}
-use Rattle.text_rules.specs.declared.Section.{Section}
-use Rattle.text_rules.specs.Line.{head_of}
+use Rattle.text_lines.specs.problem_rules.Problem.{OperatingUnit, unit_names}
+use Rattle.text_lines.specs.problem_rules.Names.{is_among}
+use Rattle.text_lines.specs.text_rules.declared.Section.{Section}
+use Rattle.text_lines.specs.text_rules.Line.{head_of}
 use Rattle.text_lines.specs.View.{texts}
-use Rattle.report_rules.specs.Item.{number_of, rates_item, item_at}
+use Rattle.command_files.specs.report_rules.Item.{number_of, rates_item, item_at}
 use Rattle.structure_commands.proofs.item.item_at.Goals as goal
 
 pub returns-in-Rates-clause-item : goal.returns-in-Rates-clause-item

@@ -1,6 +1,6 @@
 use Rattle.std.proofs.Common.{◌≡◌, ◌++◌, length}
 use Rattle.structure_commands.specs.Meant.{meant_from}
-use Rattle.text_rules.specs.declared.Section.TheVariants.{Preamble}
+use Rattle.text_lines.specs.text_rules.declared.Section.TheVariants.{Preamble}
 use Rattle.structure_commands.proofs.line.lines_behind.Given as goal
 
 abbrev pub invariant-loop-number : goal.invariant-loop-number

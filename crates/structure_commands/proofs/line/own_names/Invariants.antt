@@ -1,7 +1,7 @@
 use Rattle.std.proofs.Common.{◌≡◌, ◌++◌, drop}
 use Rattle.text_lines.specs.View.{texts}
-use Rattle.text_rules.specs.Line.{heads_at}
-use Rattle.text_rules.specs.declared.Section.TheVariants.{OperatingUnits}
+use Rattle.text_lines.specs.text_rules.Line.{heads_at}
+use Rattle.text_lines.specs.text_rules.declared.Section.TheVariants.{OperatingUnits}
 use Rattle.structure_commands.proofs.line.own_names.Given as goal
 
 abbrev pub invariant-loop-line : goal.invariant-loop-line

@@ -1,7 +1,7 @@
 use Rattle.std.proofs.Common.{ap, sym, ◌∙◌, ◌<◌, ◌-◌, ◌*◌, ◌/◌, ◌^◌, ◌++◌, ◌∷◌, [], List, ℕ, arith}
 use Rattle.std.proofs.Common.{append_assoc, append-nil}
-use Rattle.pns_rules.specs.Tokens.{digits}
-use Rattle.structure_list.proofs.DigitLemmas.{no_digits, step_print}
+use Rattle.cert_check.specs.pns_rules.Tokens.{digits}
+use Rattle.cert_check.proofs.structure_list.Cited.{no_digits, step_print}
 use Rattle.structure_commands.proofs.list.push_token.Goals as goal
 
 pub loop-i-init : goal.loop-i-init

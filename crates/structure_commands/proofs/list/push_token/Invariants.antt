@@ -1,5 +1,5 @@
 use Rattle.std.proofs.Common.{◌≡◌, ◌++◌, ◌-◌, ◌*◌, ◌/◌, ◌^◌}
-use Rattle.pns_rules.specs.Tokens.{digits}
+use Rattle.cert_check.specs.pns_rules.Tokens.{digits}
 use Rattle.structure_commands.proofs.list.push_token.Given as goal
 
 abbrev pub invariant-loop-i : goal.invariant-loop-i

@@ -1,14 +1,14 @@
 use Rattle.std.proofs.Common.{◌≤◌, ◌∷◌, [], refl, sym, subst, inl, ℕ, List, codes, length, IfSome}
-use Rattle.number_sets.specs.Sets.{has}
-use Rattle.pns_rules.specs.Shape.{Shape, shape_of}
-use Rattle.pns_rules.specs.Structure.{IsStructure}
-use Rattle.studio_rules.specs.Lines.{line}
-use Rattle.studio_rules.specs.Listing.{ListingWork, IsBadToken}
+use Rattle.text_lines.specs.number_sets.Sets.{has}
+use Rattle.cert_check.specs.pns_rules.Shape.{Shape, shape_of}
+use Rattle.cert_check.specs.pns_rules.Structure.{IsStructure}
+use Rattle.command_files.specs.studio_rules.Lines.{line}
+use Rattle.command_files.specs.studio_rules.Listing.{ListingWork, IsBadToken}
 use Rattle.structure_commands.specs.Listing.{RestSays}
-use Rattle.studio_rules.specs.Ending.{Tells}
-use Rattle.studio_rules.specs.declared.status.Status.{Status}
-use Rattle.studio_rules.specs.declared.status.Status.TheVariants.{BadToken, Memory}
-use Rattle.command_files.proofs.Ending.{Ends-map, only_in, Tells-map, one_line}
+use Rattle.command_files.specs.studio_rules.Ending.{Tells}
+use Rattle.command_files.specs.studio_rules.declared.status.Status.{Status}
+use Rattle.command_files.specs.studio_rules.declared.status.Status.TheVariants.{BadToken, Memory}
+use Rattle.command_files.proofs.Cited.{Ends-map, only_in, Tells-map, one_line}
 use Rattle.structure_commands.proofs.ListingStart.{no_after, bad_after, is_after, work_of}
 use Rattle.structure_commands.proofs.list.say_listing.Goals as goal
 

@@ -1,5 +1,5 @@
 use Rattle.std.proofs.Common.{◌≡◌, ◌≤◌, ◌+◌, ◌∷◌, ◌∙◌, [], refl, arith}
-use Rattle.command_files.proofs.Ending.{HasRisen-later}
+use Rattle.command_files.proofs.Cited.{HasRisen-later}
 use Rattle.structure_commands.proofs.Listings.{ended, continued, none_gathered, gather_one}
 use Rattle.structure_commands.proofs.Listings.{given_then, gathered_then, starved_waiting}
 use Rattle.structure_commands.proofs.Listings.{stopped_waiting}

@@ -1,12 +1,12 @@
 use Rattle.std.proofs.Common.{[], refl, inl, List, ℕ}
-use Rattle.text_rules.specs.Canonical.{canonical_lines}
-use Rattle.problem_rules.specs.Generated.{generated}
-use Rattle.studio_rules.specs.Lines.{text_of}
-use Rattle.studio_rules.specs.Make.{MakeWork}
-use Rattle.studio_rules.specs.Ending.{Tells}
-use Rattle.studio_rules.specs.declared.status.Status.{Status}
-use Rattle.studio_rules.specs.declared.status.Status.TheVariants.{Done}
-use Rattle.command_files.proofs.Ending.{Ends-map, only_or_memory_in}
+use Rattle.text_lines.specs.text_rules.Canonical.{canonical_lines}
+use Rattle.text_lines.specs.problem_rules.Generated.{generated}
+use Rattle.command_files.specs.studio_rules.Lines.{text_of}
+use Rattle.command_files.specs.studio_rules.Make.{MakeWork}
+use Rattle.command_files.specs.studio_rules.Ending.{Tells}
+use Rattle.command_files.specs.studio_rules.declared.status.Status.{Status}
+use Rattle.command_files.specs.studio_rules.declared.status.Status.TheVariants.{Done}
+use Rattle.command_files.proofs.Cited.{Ends-map, only_or_memory_in}
 use Rattle.structure_commands.proofs.make.make.Goals as goal
 
 pub returns : goal.returns

@@ -1,10 +1,9 @@
 use Rattle.std.proofs.Common.{ℕ, List}
-use Rattle.studio_rules.specs.Max.{MaxWork}
-use Rattle.studio_rules.specs.Reading.{FileSays}
-use Rattle.studio_rules.specs.Ending.{Tells}
-use Rattle.studio_rules.specs.declared.status.Status.{Status}
-use Rattle.command_files.proofs.Ending.{Ends-map, Ends-from}
-use Rattle.command_files.proofs.Files.{on_file-faults, on_file-work}
+use Rattle.command_files.specs.studio_rules.Max.{MaxWork}
+use Rattle.command_files.specs.studio_rules.Reading.{FileSays}
+use Rattle.command_files.specs.studio_rules.Ending.{Tells}
+use Rattle.command_files.specs.studio_rules.declared.status.Status.{Status}
+use Rattle.command_files.proofs.Cited.{Ends-map, Ends-from, on_file-faults, on_file-work}
 use Rattle.structure_commands.proofs.max.max.Goals as goal
 
 pub returns-in-Ok-clause-ends : goal.returns-in-Ok-clause-ends

@@ -1,15 +1,15 @@
 use Rattle.std.proofs.Common.{◌++◌, ◌∷◌, [], refl, inl, inr, ℕ, List, codes}
-use Rattle.number_sets.specs.Sets.{has}
-use Rattle.pns_rules.specs.Shape.{shape_of}
-use Rattle.pns_rules.specs.Structure.{mats}
-use Rattle.pgraph.specs.Tables.{shape}
-use Rattle.studio_rules.specs.Lines.{line}
-use Rattle.studio_rules.specs.Max.{MaxWork, units_line, materials_line}
-use Rattle.studio_rules.specs.Ending.{Tells}
-use Rattle.studio_rules.specs.declared.status.Status.{Status}
-use Rattle.studio_rules.specs.declared.status.Status.TheVariants.{Done}
-use Rattle.command_files.proofs.Ending.{Ends-map, only_in, only_or_memory_in, two_lines}
-use Rattle.studio_rules.proofs.Maximal.{maximal_from, none_from}
+use Rattle.text_lines.specs.number_sets.Sets.{has}
+use Rattle.cert_check.specs.pns_rules.Shape.{shape_of}
+use Rattle.cert_check.specs.pns_rules.Structure.{mats}
+use Rattle.cert_check.specs.pgraph.Tables.{shape}
+use Rattle.command_files.specs.studio_rules.Lines.{line}
+use Rattle.command_files.specs.studio_rules.Max.{MaxWork, units_line, materials_line}
+use Rattle.command_files.specs.studio_rules.Ending.{Tells}
+use Rattle.command_files.specs.studio_rules.declared.status.Status.{Status}
+use Rattle.command_files.specs.studio_rules.declared.status.Status.TheVariants.{Done}
+use Rattle.command_files.proofs.Cited.{Ends-map, only_in, only_or_memory_in, two_lines}
+use Rattle.command_files.proofs.studio_rules.Cited.{maximal_from, none_from}
 use Rattle.structure_commands.proofs.max.say_maximal.Goals as goal
 
 pub returns-in-Some : goal.returns-in-Some

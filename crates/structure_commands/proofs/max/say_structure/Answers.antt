@@ -1,13 +1,13 @@
 use Rattle.std.proofs.Common.{◌≡◌, ◌++◌, ◌∙◌, ap, inl, inr, ℕ, List, Bool}
-use Rattle.number_sets.specs.Sets.{has}
-use Rattle.pns_rules.specs.Shape.{Shape, shape_of}
-use Rattle.pns_rules.specs.Structure.{mats}
-use Rattle.studio_rules.specs.Lines.{line}
-use Rattle.studio_rules.specs.Max.{units_line, materials_line}
-use Rattle.studio_rules.specs.Ending.{Only, OrMemory}
-use Rattle.studio_rules.specs.declared.status.Status.{Status}
-use Rattle.studio_rules.specs.declared.status.Status.TheVariants.{Done}
-use Rattle.command_files.proofs.Ending.{Ends-map}
+use Rattle.text_lines.specs.number_sets.Sets.{has}
+use Rattle.cert_check.specs.pns_rules.Shape.{Shape, shape_of}
+use Rattle.cert_check.specs.pns_rules.Structure.{mats}
+use Rattle.command_files.specs.studio_rules.Lines.{line}
+use Rattle.command_files.specs.studio_rules.Max.{units_line, materials_line}
+use Rattle.command_files.specs.studio_rules.Ending.{Only, OrMemory}
+use Rattle.command_files.specs.studio_rules.declared.status.Status.{Status}
+use Rattle.command_files.specs.studio_rules.declared.status.Status.TheVariants.{Done}
+use Rattle.command_files.proofs.Cited.{Ends-map}
 use Rattle.structure_commands.proofs.max.say_structure.Goals as goal
 
 pub returns-in_default-materials_line : goal.returns-in_default-materials_line

@@ -1,16 +1,17 @@
 use Rattle.std.proofs.Common.{◌≡◌, ◌++◌, ◌∷◌, ◌∙◌, [], IfOk, Some, false, refl, ap, subst, inl, inr}
 use Rattle.std.proofs.Common.{codes, pos, List, ℕ}
-use Rattle.problem_rules.specs.Problem.{unit_at}
-use Rattle.edit_rules.specs.Edit.{Script}
-use Rattle.edit_rules.specs.Migration.{has_payout, out_of_range_at, migration}
-use Rattle.edit_rules.specs.Printed.{script_text}
-use Rattle.studio_rules.specs.Lines.{line, text_of}
-use Rattle.studio_rules.specs.Script.{printed_lines}
-use Rattle.studio_rules.specs.Migrate.{MigrateWork, out_of_range_line}
-use Rattle.studio_rules.specs.Ending.{Tells}
-use Rattle.studio_rules.specs.declared.status.Status.{Status}
-use Rattle.studio_rules.specs.declared.status.Status.TheVariants.{Done, NotMigrated, Memory}
-use Rattle.command_files.proofs.Ending.{Ends-map, only_in, only_or_memory_in, one_line}
+use Rattle.text_lines.specs.problem_rules.Problem.{unit_at}
+use Rattle.text_lines.specs.edit_rules.Edit.{Script}
+use Rattle.text_lines.specs.edit_rules.Migration.{has_payout, out_of_range_at, migration}
+use Rattle.text_lines.specs.edit_rules.Printed.{script_text}
+use Rattle.command_files.specs.studio_rules.Lines.{line, text_of}
+use Rattle.command_files.specs.studio_rules.Script.{printed_lines}
+use Rattle.command_files.specs.studio_rules.Migrate.{MigrateWork, out_of_range_line}
+use Rattle.command_files.specs.studio_rules.Ending.{Tells}
+use Rattle.command_files.specs.studio_rules.declared.status.Status.{Status}
+use Rattle.command_files.specs.studio_rules.declared.status.Status.TheVariants.{Done, NotMigrated}
+use Rattle.command_files.specs.studio_rules.declared.status.Status.TheVariants.{Memory}
+use Rattle.command_files.proofs.Cited.{Ends-map, only_in, only_or_memory_in, one_line}
 use Rattle.structure_commands.proofs.migrate.say_migration.Goals as goal
 
 pub returns-in-Ok : goal.returns-in-Ok

@@ -1,7 +1,7 @@
 use Rattle.std.proofs.Common.{◌≡◌, ◌<◌, ◌∙◌, ap, sym, subst, arith, length, get_or, List}
 use Rattle.std.proofs.lemmas.List.{get_or_default}
-use Rattle.number_sets.specs.Sets.{has}
-use Rattle.problem_rules.specs.Problem.{Exclusion, no_exclusion, exclusion_at}
+use Rattle.text_lines.specs.number_sets.Sets.{has}
+use Rattle.text_lines.specs.problem_rules.Problem.{Exclusion, no_exclusion, exclusion_at}
 use Rattle.structure_commands.proofs.plant.exclusion_of.Goals as goal
 
 -- the units of an exclusion of a valid problem are units of the problem

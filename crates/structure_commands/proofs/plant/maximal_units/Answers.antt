@@ -1,7 +1,7 @@
 use Rattle.std.proofs.Common.{false, subst, ℕ, List}
-use Rattle.number_sets.specs.Sets.{has}
-use Rattle.pns_rules.specs.Structure.{IsUnion}
-use Rattle.pgraph.specs.Tables.{shape}
+use Rattle.text_lines.specs.number_sets.Sets.{has}
+use Rattle.cert_check.specs.pns_rules.Structure.{IsUnion}
+use Rattle.cert_check.specs.pgraph.Tables.{shape}
 use Rattle.structure_commands.proofs.LintsMaximal.{empty_union}
 use Rattle.structure_commands.proofs.plant.maximal_units.Goals as goal
 

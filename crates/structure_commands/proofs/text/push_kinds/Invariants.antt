@@ -1,9 +1,9 @@
 use Rattle.std.proofs.Common.{◌≡◌, ◌++◌, drop, string_bytes}
 use Rattle.std.specs.Prelude.{flat_map, filter}
-use Rattle.number_sets.specs.Sets.{has}
-use Rattle.pns_problem.specs.Printing.{printed}
-use Rattle.report_rules.specs.Item.{name_of, stands}
-use Rattle.report_rules.specs.Lint.{warning_lines}
+use Rattle.text_lines.specs.number_sets.Sets.{has}
+use Rattle.cert_check.specs.pns_problem.Printing.{printed}
+use Rattle.command_files.specs.report_rules.Item.{name_of, stands}
+use Rattle.command_files.specs.report_rules.Lint.{warning_lines}
 use Rattle.structure_commands.proofs.text.push_kinds.Given as goal
 
 -- the text so far and the lines of the kinds that are left give the whole text

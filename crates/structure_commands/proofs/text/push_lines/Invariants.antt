@@ -1,9 +1,9 @@
 use Rattle.std.proofs.Common.{◌≡◌, ◌++◌, drop, string_bytes}
 use Rattle.std.specs.Prelude.{flat_map}
-use Rattle.number_sets.specs.Sets.{has}
+use Rattle.text_lines.specs.number_sets.Sets.{has}
 use Rattle.text_lines.specs.View.{texts}
-use Rattle.pns_problem.specs.Printing.{printed}
-use Rattle.report_rules.specs.Lint.{line_lines}
+use Rattle.cert_check.specs.pns_problem.Printing.{printed}
+use Rattle.command_files.specs.report_rules.Lint.{line_lines}
 use Rattle.structure_commands.proofs.text.push_lines.Given as goal
 
 -- the text so far and the lines of what is left give the whole text

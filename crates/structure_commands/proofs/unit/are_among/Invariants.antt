@@ -1,5 +1,5 @@
 use Rattle.std.proofs.Common.{◌≡◌, drop}
-use Rattle.report_rules.specs.Warned.{are_among}
+use Rattle.command_files.specs.report_rules.Warned.{are_among}
 use Rattle.structure_commands.proofs.unit.are_among.Given as goal
 
 abbrev pub invariant-looking : goal.invariant-looking

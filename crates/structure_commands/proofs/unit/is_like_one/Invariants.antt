@@ -1,6 +1,6 @@
 use Rattle.std.proofs.Common.{◌≡◌, drop}
 use Rattle.std.specs.List.{list_any}
-use Rattle.report_rules.specs.Warned.{are_alike}
+use Rattle.command_files.specs.report_rules.Warned.{are_alike}
 use Rattle.structure_commands.proofs.unit.is_like_one.Given as goal
 
 abbrev pub invariant-looking : goal.invariant-looking

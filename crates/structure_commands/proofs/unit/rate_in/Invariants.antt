@@ -1,5 +1,5 @@
 use Rattle.std.proofs.Common.{◌≡◌, drop}
-use Rattle.problem_rules.specs.Problem.{rate_in}
+use Rattle.text_lines.specs.problem_rules.Problem.{rate_in}
 use Rattle.structure_commands.proofs.unit.rate_in.Given as goal
 
 abbrev pub invariant-looking : goal.invariant-looking

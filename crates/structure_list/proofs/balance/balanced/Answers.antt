@@ -1,7 +1,6 @@
 use Rattle.std.proofs.Common.{◌∙◌, ap, sym, arith}
-use Rattle.number_sets.specs.Sets.{has, union}
-use Rattle.number_sets.proofs.OptionLemmas.{first_had}
-use Rattle.number_sets.proofs.SetLemmas.{has-minus}
+use Rattle.pgraph.specs.number_sets.Sets.{has, union}
+use Rattle.pgraph.proofs.number_sets.Cited.{first_had, has-minus}
 use Rattle.pgraph.specs.Tables.{shape}
 use Rattle.structure_list.proofs.BalanceLemmas.{broken_known, next_within, next_keeps, more_covers}
 use Rattle.structure_list.proofs.BalanceLemmas.{more_known, turn_smaller}

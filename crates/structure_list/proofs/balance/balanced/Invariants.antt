@@ -1,7 +1,7 @@
 use Rattle.std.proofs.Common.{◌≡◌, ◌<◌, ◌+◌, ◌*◌, ℕ, Bool, true, length}
-use Rattle.number_sets.specs.Sets.{has, IsWithin}
-use Rattle.pns_rules.specs.Structure.{Meets}
-use Rattle.pns_rules.specs.Breaks.{BreaksS2}
+use Rattle.pgraph.specs.number_sets.Sets.{has, IsWithin}
+use Rattle.pgraph.specs.pns_rules.Structure.{Meets}
+use Rattle.pgraph.specs.pns_rules.Breaks.{BreaksS2}
 use Rattle.pgraph.specs.Tables.{shape}
 use Rattle.structure_list.proofs.balance.balanced.Given as goal
 

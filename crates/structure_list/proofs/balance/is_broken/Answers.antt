@@ -1,8 +1,8 @@
 use Rattle.std.proofs.Common.{◌≡◌, ◌∙◌, ◌↔◌, not, true, false, sym, ap, subst}
 use Rattle.std.proofs.lemmas.Bool.{both_ways}
-use Rattle.number_sets.specs.Sets.{has}
+use Rattle.pgraph.specs.number_sets.Sets.{has}
 use Rattle.pgraph.specs.Tables.{shape}
-use Rattle.pns_rules.specs.Breaks.{BreaksS2}
+use Rattle.pgraph.specs.pns_rules.Breaks.{BreaksS2}
 use Rattle.structure_list.proofs.BalanceLemmas.{broken_if_raw, broken_if_unmade, unbroken_if_made}
 use Rattle.structure_list.proofs.balance.is_broken.Goals as goal
 

@@ -1,5 +1,5 @@
 use Rattle.std.proofs.Common.{sym, ◌∙◌, arith}
-use Rattle.number_sets.specs.Sets.{has}
+use Rattle.pgraph.specs.number_sets.Sets.{has}
 use Rattle.pgraph.specs.Tables.{shape}
 use Rattle.structure_list.proofs.TurnLemmas.{within_taken, within_left, fewer_before}
 use Rattle.structure_list.proofs.compare.+compare_from.Goals as goal

@@ -1,8 +1,8 @@
 use Rattle.std.proofs.Common.{◌≡◌, ap, sym, ◌∙◌, ℕ}
-use Rattle.number_sets.specs.Sets.{has}
-use Rattle.number_sets.proofs.SetLemmas.{same_sets}
-use Rattle.pns_rules.specs.Trace.{IsBefore}
-use Rattle.pns_rules.proofs.OrderLemmas.{before_apart, before_not_after}
+use Rattle.pgraph.specs.number_sets.Sets.{has}
+use Rattle.pgraph.proofs.number_sets.Cited.{same_sets}
+use Rattle.pgraph.specs.pns_rules.Trace.{IsBefore}
+use Rattle.pgraph.proofs.pns_rules.Cited.{before_apart, before_not_after}
 use Rattle.pgraph.specs.Tables.{shape}
 use Rattle.structure_list.proofs.CompareLemmas.{only_less, only_greater, only_equal, at_start}
 use Rattle.structure_list.proofs.compare.compare_traces.Goals as goal

@@ -1,5 +1,5 @@
 use Rattle.std.proofs.Common.{sym, ◌∙◌}
-use Rattle.number_sets.specs.Sets.{has}
+use Rattle.pgraph.specs.number_sets.Sets.{has}
 use Rattle.pgraph.specs.Tables.{shape}
 use Rattle.structure_list.proofs.LeavingLemmas.{starved_is}
 use Rattle.structure_list.proofs.leaving.starved.Goals as goal

@@ -1,6 +1,6 @@
 use Rattle.std.proofs.Common.{◌∙◌, ap, sym, refl}
-use Rattle.number_sets.specs.Sets.{has, union}
-use Rattle.number_sets.proofs.OptionLemmas.{first_had}
+use Rattle.pgraph.specs.number_sets.Sets.{has, union}
+use Rattle.pgraph.proofs.number_sets.Cited.{first_had}
 use Rattle.pgraph.specs.Tables.{shape}
 use Rattle.structure_list.proofs.BalanceLemmas.{turn_smaller}
 use Rattle.structure_list.proofs.LeavingLemmas.{starts_leaving, goes_on_leaving, no_rest}

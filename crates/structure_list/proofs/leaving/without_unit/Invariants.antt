@@ -1,5 +1,5 @@
 use Rattle.std.proofs.Common.{◌+◌, ◌*◌, length}
-use Rattle.number_sets.specs.Sets.{has}
+use Rattle.pgraph.specs.number_sets.Sets.{has}
 use Rattle.pgraph.specs.Tables.{shape}
 use Rattle.structure_list.proofs.LeavingLemmas.{IsLeaving}
 use Rattle.structure_list.proofs.leaving.without_unit.Given as goal

@@ -1,6 +1,6 @@
 use Rattle.std.proofs.Common.{◌≡◌, ◌+◌, ◌≤◌, ◌++◌, ◌∷◌, []}
-use Rattle.number_sets.specs.Sets.{has}
-use Rattle.pns_rules.specs.Structure.{IsAllowed}
+use Rattle.pgraph.specs.number_sets.Sets.{has}
+use Rattle.pgraph.specs.pns_rules.Structure.{IsAllowed}
 use Rattle.pgraph.specs.Tables.{shape}
 use Rattle.structure_list.specs.Position.{free_count}
 use Rattle.structure_list.specs.Stack.{IsStack, HaveSame, weight}

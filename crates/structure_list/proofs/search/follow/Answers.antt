@@ -1,5 +1,5 @@
 use Rattle.std.proofs.Common.{◌∙◌, sym, subst, refl}
-use Rattle.number_sets.specs.Sets.{has}
+use Rattle.pgraph.specs.number_sets.Sets.{has}
 use Rattle.pgraph.specs.Tables.{shape}
 use Rattle.structure_list.specs.Position.{IsWithinNode}
 use Rattle.structure_list.proofs.TightLemmas.{tight_here}

@@ -1,4 +1,4 @@
-use Rattle.number_sets.specs.Sets.{has}
+use Rattle.pgraph.specs.number_sets.Sets.{has}
 use Rattle.pgraph.specs.Tables.{shape}
 use Rattle.structure_list.specs.Position.{free_count}
 use Rattle.structure_list.proofs.FollowLemmas.{IsFollowing}

@@ -1,7 +1,7 @@
 use Rattle.std.proofs.Common.{ap}
 use Rattle.std.proofs.lemmas.Bool.{both_ways}
-use Rattle.number_sets.specs.Sets.{has}
-use Rattle.pns_rules.specs.Structure.{mats}
+use Rattle.pgraph.specs.number_sets.Sets.{has}
+use Rattle.pgraph.specs.pns_rules.Structure.{mats}
 use Rattle.pgraph.specs.Tables.{shape}
 use Rattle.structure_list.proofs.StartLemmas.{starts, union_of, out_of}
 use Rattle.structure_list.proofs.search.start.Goals as goal

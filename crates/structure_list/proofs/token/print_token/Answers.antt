@@ -1,5 +1,5 @@
 use Rattle.std.proofs.Common.{ap, sym, ◌∙◌, ◌<◌, ◌-◌, ◌*◌, ◌/◌, ◌^◌, ◌++◌, arith}
-use Rattle.pns_rules.specs.Tokens.{digits}
+use Rattle.pgraph.specs.pns_rules.Tokens.{digits}
 use Rattle.structure_list.proofs.DigitLemmas.{no_digits, step_print}
 use Rattle.structure_list.proofs.token.print_token.Goals as goal
 

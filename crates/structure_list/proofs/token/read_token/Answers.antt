@@ -2,8 +2,8 @@ use Rattle.std.proofs.Common.{◌≡◌, ap, ap₂, sym, refl, ◌∙◌, ◌<�
 use Rattle.std.proofs.Common.{subst, take}
 use Rattle.std.proofs.lemmas.List.{take_more}
 use Rattle.std.proofs.Math.Seq.{take-length}
-use Rattle.number_sets.specs.Sets.{mask_of}
-use Rattle.pns_rules.specs.Tokens.{digits, token_of, AreDigits}
+use Rattle.pgraph.specs.number_sets.Sets.{mask_of}
+use Rattle.pgraph.specs.pns_rules.Tokens.{digits, token_of, AreDigits}
 use Rattle.structure_list.proofs.TokenLemmas.{token_has_form, digit_at}
 use Rattle.structure_list.proofs.DigitLemmas.{no_digits, short, no_token, bits_read, digits_read}
 use Rattle.structure_list.proofs.token.read_token.Goals as goal

@@ -1,5 +1,5 @@
 use Rattle.std.proofs.Common.{◌≡◌, ◌*◌, ◌<◌, ◌^◌, take}
-use Rattle.pns_rules.specs.Tokens.{digits}
+use Rattle.pgraph.specs.pns_rules.Tokens.{digits}
 use Rattle.structure_list.proofs.token.read_token.Given as goal
 
 abbrev pub invariant-loop-i : goal.invariant-loop-i

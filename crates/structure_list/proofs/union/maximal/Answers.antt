@@ -1,11 +1,12 @@
 use Rattle.std.proofs.Common.{ap, refl, false}
 use Rattle.std.proofs.lemmas.Bool.{both_ways}
-use Rattle.number_sets.specs.Sets.{has}
-use Rattle.pns_rules.specs.Ends.{IsNever}
+use Rattle.pgraph.specs.number_sets.Sets.{has}
+use Rattle.pgraph.specs.pns_rules.Ends.{IsNever}
 use Rattle.pgraph.specs.Tables.{shape}
-use Rattle.pns_rules.specs.Breaks.{BreaksS1}
-use Rattle.pgraph.proofs.ArcLemmas.{some_number}
-use Rattle.structure_list.proofs.UnionLemmas.{set_within, structure_of, set_keeps, union_of, none_of}
+use Rattle.pgraph.specs.pns_rules.Breaks.{BreaksS1}
+use Rattle.pgraph.proofs.Cited.{some_number}
+use Rattle.structure_list.proofs.UnionLemmas.{set_within, structure_of, set_keeps, union_of}
+use Rattle.structure_list.proofs.UnionLemmas.{none_of}
 use Rattle.structure_list.proofs.UnionLemmas.{all_known, all_avoids, all_keeps}
 use Rattle.structure_list.proofs.union.maximal.Goals as goal
 

@@ -1,8 +1,8 @@
 use Rattle.std.proofs.Common.{false, refl}
 use Rattle.std.proofs.lemmas.Bool.{both_ways}
-use Rattle.number_sets.specs.Sets.{has}
+use Rattle.pgraph.specs.number_sets.Sets.{has}
 use Rattle.pgraph.specs.Tables.{shape}
-use Rattle.pns_rules.specs.Structure.{mats}
+use Rattle.pgraph.specs.pns_rules.Structure.{mats}
 use Rattle.structure_list.proofs.union.viable.Goals as goal
 
 pub returns-in-Some-clause-viable : goal.returns-in-Some-clause-viable

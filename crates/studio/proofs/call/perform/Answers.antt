@@ -1,18 +1,22 @@
 use Rattle.std.proofs.Common.{refl, sym, ap, subst, arith, ◌≤◌, ℕ, List, map, string_bytes}
-use Rattle.studio_rules.specs.Command.{Command, Max, Axioms, Flows, Listing, Linting, Migrate}
-use Rattle.studio_rules.specs.Command.{Editing, Undoing, Checking, RankChecking, Solving, Showing}
-use Rattle.studio_rules.specs.Command.{Ranking, Telling, AreWithin, Table, Splitting, Expanding}
-use Rattle.studio_rules.specs.Command.{Drawing, DrawingNetwork, Reporting, Json, Ranging, Planning}
-use Rattle.studio_rules.specs.Command.{Parting, PartingAgainst, Merging, Alternatives, RangingAll}
-use Rattle.studio_words.specs.View.{command_view}
-use Rattle.studio_rules.specs.Answers.{CommandSays}
-use Rattle.studio_rules.specs.Make.{MakeWork}
-use Rattle.studio_rules.specs.Trial.{TrialWork}
-use Rattle.studio_rules.specs.declared.status.Status.{Status}
-use Rattle.studio_rules.specs.PageLines.{IsOfLines}
-use Rattle.studio_rules.specs.declared.status.Status.TheVariants.{Done}
-use Rattle.command_files.proofs.Ending.{Ends-map, Says-told, only_in}
-use Rattle.command_files.proofs.Keeping.{keeps_same}
+use Rattle.structure_commands.specs.studio_rules.Command.{Command, Max, Axioms, Flows, Listing}
+use Rattle.structure_commands.specs.studio_rules.Command.{Linting, Migrate}
+use Rattle.structure_commands.specs.studio_rules.Command.{Editing, Undoing, Checking, RankChecking}
+use Rattle.structure_commands.specs.studio_rules.Command.{Solving, Showing}
+use Rattle.structure_commands.specs.studio_rules.Command.{Ranking, Telling, AreWithin, Table}
+use Rattle.structure_commands.specs.studio_rules.Command.{Splitting, Expanding}
+use Rattle.structure_commands.specs.studio_rules.Command.{Drawing, DrawingNetwork, Reporting, Json}
+use Rattle.structure_commands.specs.studio_rules.Command.{Ranging, Planning}
+use Rattle.structure_commands.specs.studio_rules.Command.{Parting, PartingAgainst, Merging}
+use Rattle.structure_commands.specs.studio_rules.Command.{Alternatives, RangingAll}
+use Rattle.structure_commands.specs.studio_words.View.{command_view}
+use Rattle.structure_commands.specs.studio_rules.Answers.{CommandSays}
+use Rattle.structure_commands.specs.studio_rules.Make.{MakeWork}
+use Rattle.structure_commands.specs.studio_rules.Trial.{TrialWork}
+use Rattle.structure_commands.specs.studio_rules.declared.status.Status.{Status}
+use Rattle.structure_commands.specs.studio_rules.PageLines.{IsOfLines}
+use Rattle.structure_commands.specs.studio_rules.declared.status.Status.TheVariants.{Done}
+use Rattle.structure_commands.proofs.command_files.Cited.{Ends-map, Says-told, only_in, keeps_same}
 use Rattle.studio.proofs.call.perform.Goals as goal
 
 pub returns-in-Max-clause-ends : goal.returns-in-Max-clause-ends

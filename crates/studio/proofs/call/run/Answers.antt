@@ -1,14 +1,15 @@
 use Rattle.std.proofs.Common.{◌≡◌, ◌∷◌, [], Some, None, IfSome, IsSomeAnd, map, refl, inl, List, ℕ}
 use Rattle.std.proofs.Common.{Option, codes, string_bytes, subst, ap, sym, ◌∙◌, option_map}
-use Rattle.studio_rules.specs.Lines.{line}
-use Rattle.studio_rules.specs.Command.{Command, command_of, AreWithin, IsFileOf, IsFileWord}
-use Rattle.studio_words.specs.View.{command_view}
-use Rattle.studio_rules.specs.Answers.{Answers, AnswersTo, CommandAnswers, CommandSays, WordsSay}
-use Rattle.studio_rules.specs.declared.status.Status.{Status}
-use Rattle.studio_rules.specs.declared.status.Status.TheVariants.{Usage, Memory}
-use Rattle.command_files.proofs.Ending.{Ends-map, Says-map, only_in}
-use Rattle.studio_words.proofs.Within.{words_within}
-use Rattle.command_files.proofs.Keeping.{keeps_same}
+use Rattle.structure_commands.specs.studio_rules.Lines.{line}
+use Rattle.structure_commands.specs.studio_rules.Command.{Command, command_of, AreWithin, IsFileOf}
+use Rattle.structure_commands.specs.studio_rules.Command.{IsFileWord}
+use Rattle.structure_commands.specs.studio_words.View.{command_view}
+use Rattle.structure_commands.specs.studio_rules.Answers.{Answers, AnswersTo, CommandAnswers}
+use Rattle.structure_commands.specs.studio_rules.Answers.{CommandSays, WordsSay}
+use Rattle.structure_commands.specs.studio_rules.declared.status.Status.{Status}
+use Rattle.structure_commands.specs.studio_rules.declared.status.Status.TheVariants.{Usage, Memory}
+use Rattle.structure_commands.proofs.command_files.Cited.{Ends-map, Says-map, only_in, keeps_same}
+use Rattle.structure_commands.proofs.studio_words.Cited.{words_within}
 use Rattle.studio.proofs.call.run.Goals as goal
 
 pub perform-requires : goal.perform-requires

@@ -4,7 +4,7 @@ use Rattle.studio.proofs.Statuses.{complete_ends, accepted_ends, ranked_ends, mi
 use Rattle.studio.proofs.Finished.{finish_ends}
 use Rattle.studio.proofs.Causes.{exact_ends}
 use Rattle.studio.proofs.Noted.{finished_as, still_fault}
-use Rattle.studio_rules.specs.Answers.{WordsSay}
+use Rattle.structure_commands.specs.studio_rules.Answers.{WordsSay}
 use Rattle.studio.proofs.call.studio.Goals as goal
 
 pub returns : goal.returns

@@ -1,4 +1,4 @@
-use Rattle.structure_commands.proofs.ListingParts as parts
+use Rattle.structure_commands.proofs.Cited as parts
 use Rattle.studio.proofs.laws.parts_join.Goals as goal
 
 pub returns : goal.returns

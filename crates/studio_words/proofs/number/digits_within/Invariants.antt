@@ -1,7 +1,7 @@
 use Rattle.std.proofs.Common.{◌≡◌, ◌≤◌, drop}
 use Rattle.std.specs.List.{list_all}
 use Rattle.std.specs.Char.{is_ascii_digit}
-use Rattle.text_rules.specs.Amount.{number_from, number_of}
+use Rattle.studio_rules.specs.text_rules.Amount.{number_from, number_of}
 use Rattle.studio_words.proofs.number.digits_within.Given as goal
 
 -- the bytes before the index are digits, whose number those to come finish

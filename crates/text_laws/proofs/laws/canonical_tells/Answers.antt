@@ -1,5 +1,5 @@
 use Rattle.std.proofs.Common.{◌≡◌, sym, ◌∙◌, ap, Result, Ok}
-use Rattle.problem_rules.specs.Problem.{Problem}
+use Rattle.text_rules.specs.problem_rules.Problem.{Problem}
 use Rattle.text_rules.specs.Fault.{Fault}
 use Rattle.text_rules.specs.Value.{read_text}
 use Rattle.text_laws.proofs.laws.canonical_tells.Goals as goal

@@ -1,6 +1,6 @@
 use Rattle.std.proofs.Common.{◌∷◌, ◌++◌, List, ℕ, refl, ap, sym, ◌∙◌, append_assoc, arith}
-use Rattle.text_rules.specs.Amount.{number_from}
-use Rattle.text_laws.proofs.Digits.{number-append}
+use Rattle.edit_rules.specs.text_rules.Amount.{number_from}
+use Rattle.text_laws.proofs.Cited.{number-append}
 use Rattle.text_lines.proofs.Fronts.{digits_pass, points_none, digits_count, behind_none}
 use Rattle.text_lines.proofs.Fronts.{point_passes, point_one, point_count, point_behind}
 use Rattle.text_lines.proofs.amount.front_of.Goals as goal

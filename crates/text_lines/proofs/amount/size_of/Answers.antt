@@ -1,5 +1,5 @@
 use Rattle.std.proofs.Common.{None, Some, ap, sym, ◌∙◌}
-use Rattle.text_rules.specs.Amount.{has_minus, with_sign}
+use Rattle.edit_rules.specs.text_rules.Amount.{has_minus, with_sign}
 use Rattle.text_lines.proofs.Fronts.{amount_off, amount_on}
 use Rattle.text_lines.proofs.amount.size_of.Goals as goal
 

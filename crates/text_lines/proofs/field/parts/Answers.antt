@@ -3,7 +3,7 @@ use Rattle.std.specs.Borrow.{Bor}
 use Rattle.std.proofs.lemmas.Iterator.{YieldsList-from_map_by}
 use Rattle.std.proofs.lemmas.Iterator.Consumers.{map_from_collect, YieldsList-at}
 use Rattle.std.proofs.lemmas.Iterator.Splits.{YieldsList-from_slice_split}
-use Rattle.text_rules.specs.Blanks.{trim}
+use Rattle.edit_rules.specs.text_rules.Blanks.{trim}
 use Rattle.text_lines.proofs.field.parts.Goals as goal
 
 pub returns : goal.returns

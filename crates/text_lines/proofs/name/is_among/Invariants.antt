@@ -1,5 +1,5 @@
 use Rattle.std.proofs.Common.{◌≡◌, drop}
-use Rattle.problem_rules.specs.Names.{is_among}
+use Rattle.edit_rules.specs.problem_rules.Names.{is_among}
 use Rattle.text_lines.specs.View.{texts}
 use Rattle.text_lines.proofs.name.is_among.Given as goal
 

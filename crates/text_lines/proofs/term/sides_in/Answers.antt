@@ -1,7 +1,7 @@
 use Rattle.std.proofs.Common.{◌≡◌, Option, IfOk, option_map, subst, List, sym}
 use Rattle.std.specs.List.{slice_split}
 use Rattle.text_lines.specs.View.{texts}
-use Rattle.text_rules.specs.Term.{Pair}
+use Rattle.edit_rules.specs.text_rules.Term.{Pair}
 use Rattle.text_lines.specs.Terms.{sides_view, is_arrow}
 use Rattle.text_lines.proofs.Sides.{sides-two}
 use Rattle.text_lines.proofs.term.sides_in.Goals as goal

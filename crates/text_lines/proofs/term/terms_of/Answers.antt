@@ -7,7 +7,7 @@ use Rattle.std.proofs.lemmas.List.{take-map, drop-map, length-map, map-append}
 use Rattle.text_lines.proofs.Borrowed.{rest_all, texts-long}
 use Rattle.text_lines.specs.declared.term.Term.{Term}
 use Rattle.text_lines.specs.View.{texts}
-use Rattle.text_rules.specs.Term.{Pair}
+use Rattle.edit_rules.specs.text_rules.Term.{Pair}
 use Rattle.text_lines.specs.Terms.{term_view, terms_view, terms_read, begins, is_plus}
 use Rattle.text_lines.proofs.Cutting.{split-first, split-at, behind}
 use Rattle.text_lines.proofs.Sides.{terms-more, terms-bad, terms_some}

@@ -1,6 +1,6 @@
 use Rattle.std.proofs.Common.{◌≡◌, ◌++◌, length, option_map}
 use Rattle.std.specs.List.{slice_split}
-use Rattle.text_rules.specs.Field.{terms_of}
+use Rattle.edit_rules.specs.text_rules.Field.{terms_of}
 use Rattle.text_lines.specs.View.{texts}
 use Rattle.text_lines.specs.Terms.{terms_view, terms_read, is_plus}
 use Rattle.text_lines.proofs.term.terms_of.Given as goal

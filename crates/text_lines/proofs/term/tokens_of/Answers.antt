@@ -2,7 +2,7 @@ use Rattle.std.proofs.Common.{◌==◌, ℕ, List, not, length, rules}
 use Rattle.std.proofs.lemmas.Iterator.Consumers.{map_from_collect, YieldsList-at}
 use Rattle.std.proofs.lemmas.Iterator.Consumers.{YieldsList-from_filter}
 use Rattle.std.proofs.lemmas.Iterator.Splits.{YieldsList-from_slice_split}
-use Rattle.text_rules.specs.Blanks.{is_blank}
+use Rattle.edit_rules.specs.text_rules.Blanks.{is_blank}
 use Rattle.text_lines.proofs.term.tokens_of.Goals as goal
 
 pub returns : goal.returns

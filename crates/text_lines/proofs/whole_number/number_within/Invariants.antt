@@ -1,5 +1,5 @@
 use Rattle.std.proofs.Common.{◌≡◌, ◌≤◌, drop}
-use Rattle.text_rules.specs.Amount.{number_from, number_of}
+use Rattle.edit_rules.specs.text_rules.Amount.{number_from, number_of}
 use Rattle.text_lines.proofs.whole_number.number_within.Given as goal
 
 -- the digits that remain complete the number

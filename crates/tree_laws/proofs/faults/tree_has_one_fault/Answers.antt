@@ -1,5 +1,5 @@
 use Rattle.std.proofs.Common.{[], ◌∷◌}
-use Rattle.pns_rules.specs.Shape.{shape_of}
+use Rattle.tree_rules.specs.pns_rules.Shape.{shape_of}
 use Rattle.tree_rules.specs.Claim.{claimed_cost}
 use Rattle.tree_rules.specs.Leaf.{LeafPasses, LeafFails}
 use Rattle.tree_laws.proofs.FaultLemmas.{leaf_rules, tree_passes, tree_one}

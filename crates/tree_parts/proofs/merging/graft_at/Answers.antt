@@ -1,5 +1,5 @@
 use Rattle.std.proofs.Common.{◌+◌, ◌++◌, ◌∙◌, ap, take}
-use Rattle.tree_rules.specs.Accepted.{Tree}
+use Rattle.tree_text_laws.specs.tree_rules.Accepted.{Tree}
 use Rattle.tree_parts.proofs.GraftLists.{from_on, pieces_joined}
 use Rattle.tree_parts.proofs.merging.graft_at.Goals as goal
 

@@ -1,7 +1,7 @@
 use Rattle.std.proofs.Common.{◌∙◌, ap, sym}
-use Rattle.tree_rules.specs.Tree.{TreeNode}
-use Rattle.tree_rules.specs.Leaf.{Leaf}
-use Rattle.tree_text_rules.specs.Graft.{is_open}
+use Rattle.tree_text_laws.specs.tree_rules.Tree.{TreeNode}
+use Rattle.tree_text_laws.specs.tree_rules.Leaf.{Leaf}
+use Rattle.tree_text_laws.specs.tree_text_rules.Graft.{is_open}
 use Rattle.tree_parts.proofs.MergeLemmas.{open_at, shut_more}
 use Rattle.tree_parts.proofs.merging.has_open.Goals as goal
 

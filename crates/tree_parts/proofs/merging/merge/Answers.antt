@@ -1,18 +1,18 @@
 use Rattle.std.proofs.Common.{◌≡◌, ◌∙◌, ◌∷◌, [], List, ap, sym, subst}
 use Rattle.std.proofs.lemmas.Result.{err_from_is_err_and}
-use Rattle.number_sets.specs.Sets.{has}
-use Rattle.pns_rules.specs.Shape.{shape_of}
-use Rattle.pns_rules.specs.Nodes.{Node}
-use Rattle.pgraph.specs.View.{node_of}
-use Rattle.tree_rules.specs.Tree.{IsTree}
-use Rattle.tree_rules.specs.Claim.{Claim}
-use Rattle.tree_rules.specs.Accepted.{Tree, first_node, IsPartial}
-use Rattle.branch_tree.specs.View.{claim_of}
-use Rattle.tree_text_rules.specs.OpenLeaves.{OpenAt, open_leaves, IsAmong}
-use Rattle.tree_text_rules.specs.Graft.{claim_of_both}
+use Rattle.tree_text_laws.specs.number_sets.Sets.{has}
+use Rattle.tree_text_laws.specs.pns_rules.Shape.{shape_of}
+use Rattle.tree_text_laws.specs.pns_rules.Nodes.{Node}
+use Rattle.tree_text_laws.specs.pgraph.View.{node_of}
+use Rattle.tree_text_laws.specs.tree_rules.Tree.{IsTree}
+use Rattle.tree_text_laws.specs.tree_rules.Claim.{Claim}
+use Rattle.tree_text_laws.specs.tree_rules.Accepted.{Tree, first_node, IsPartial}
+use Rattle.tree_text_laws.specs.branch_tree.View.{claim_of}
+use Rattle.tree_text_laws.specs.tree_text_rules.OpenLeaves.{OpenAt, open_leaves, IsAmong}
+use Rattle.tree_text_laws.specs.tree_text_rules.Graft.{claim_of_both}
 use Rattle.cert_check.specs.declared.open_leaf.OpenLeaf.{OpenLeaf}
 use Rattle.cert_check.specs.OpenLeaves.{leaves_at}
-use Rattle.tree_text_rules.specs.Part.{start_of}
+use Rattle.tree_text_laws.specs.tree_text_rules.Part.{start_of}
 use Rattle.tree_parts.proofs.merging.merge.Goals as goal
 
 pub returns-in_err-leaves-clause-fault : goal.returns-in_err-leaves-clause-fault

@@ -1,9 +1,9 @@
 use Rattle.std.proofs.Common.{◌∙◌, ◌∷◌, [], ◌<◌, ap₂, length, sym, subst}
-use Rattle.pns_rules.specs.Shape.{shape_of}
-use Rattle.tree_rules.specs.Tree.{IsTree}
-use Rattle.tree_rules.specs.Accepted.{Tree, first_node}
-use Rattle.tree_text_rules.specs.Graft.{graft_at}
-use Rattle.tree_text_rules.specs.Part.{start_of}
+use Rattle.tree_text_laws.specs.pns_rules.Shape.{shape_of}
+use Rattle.tree_text_laws.specs.tree_rules.Tree.{IsTree}
+use Rattle.tree_text_laws.specs.tree_rules.Accepted.{Tree, first_node}
+use Rattle.tree_text_laws.specs.tree_text_rules.Graft.{graft_at}
+use Rattle.tree_text_laws.specs.tree_text_rules.Part.{start_of}
 use Rattle.tree_parts.proofs.GraftLists.{stands_below}
 use Rattle.tree_parts.proofs.merging.put_back.Goals as goal
 

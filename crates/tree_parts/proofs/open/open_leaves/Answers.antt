@@ -1,13 +1,13 @@
 use Rattle.std.proofs.Common.{◌≡◌, ◌∷◌, [], true, IfOk, OnOk, IfErr, subst, sym}
-use Rattle.number_sets.specs.Sets.{has}
-use Rattle.pns_rules.specs.Shape.{shape_of}
-use Rattle.pns_rules.specs.Nodes.{Node}
-use Rattle.pgraph.specs.View.{node_of}
-use Rattle.tree_rules.specs.Accepted.{first_node, Proves, NodeIsFault}
-use Rattle.branch_tree.specs.View.{claim_of}
-use Rattle.tree_text_rules.specs.OpenLeaves.{open_leaves}
+use Rattle.tree_text_laws.specs.number_sets.Sets.{has}
+use Rattle.tree_text_laws.specs.pns_rules.Shape.{shape_of}
+use Rattle.tree_text_laws.specs.pns_rules.Nodes.{Node}
+use Rattle.tree_text_laws.specs.pgraph.View.{node_of}
+use Rattle.tree_text_laws.specs.tree_rules.Accepted.{first_node, Proves, NodeIsFault}
+use Rattle.tree_text_laws.specs.branch_tree.View.{claim_of}
+use Rattle.tree_text_laws.specs.tree_text_rules.OpenLeaves.{open_leaves}
 use Rattle.cert_check.specs.OpenLeaves.{leaves_at}
-use Rattle.tree_rules.specs.Refusals.{Refuses}
+use Rattle.tree_text_laws.specs.tree_rules.Refusals.{Refuses}
 use Rattle.tree_parts.proofs.open.open_leaves.Goals as goal
 
 pub returns-clause-partial : goal.returns-clause-partial

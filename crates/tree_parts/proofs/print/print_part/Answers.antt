@@ -1,7 +1,7 @@
 use Rattle.std.proofs.Common.{◌∷◌, [], codes}
 use Rattle.std.proofs.lemmas.Result.{err_from_is_err_and}
-use Rattle.tree_text_rules.specs.PartSpelling.{file_type, set_line}
-use Rattle.tree_text.proofs.Printed.{two_printed, part_failed}
+use Rattle.tree_text_laws.specs.tree_text_rules.PartSpelling.{file_type, set_line}
+use Rattle.tree_text.proofs.Cited.{two_printed, part_failed}
 use Rattle.tree_parts.proofs.print.print_part.Goals as goal
 
 pub returns-in_err-put_line-clause-prints : goal.returns-in_err-put_line-clause-prints

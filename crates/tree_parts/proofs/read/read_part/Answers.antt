@@ -1,7 +1,7 @@
 use Rattle.std.proofs.Common.{suc, Ok, sym, ap, ◌∙◌, subst}
 use Rattle.std.proofs.lemmas.Result.{err_from_is_err_and}
-use Rattle.tree_text_rules.specs.Part.{Part}
-use Rattle.tree_text_rules.specs.PartRead.{PartReads}
+use Rattle.tree_text_laws.specs.tree_text_rules.Part.{Part}
+use Rattle.tree_text_laws.specs.tree_text_rules.PartRead.{PartReads}
 use Rattle.tree_parts.proofs.Reading.{outside_told, rest_read, rest_told}
 use Rattle.tree_parts.proofs.read.read_part.Goals as goal
 

@@ -1,7 +1,7 @@
 use Rattle.std.proofs.Common.{◌≡◌, ℕ, List, ◌∷◌, [], sym, ap, ◌∙◌, subst}
 use Rattle.std.proofs.lemmas.Bool.{both_ways}
-use Rattle.number_sets.specs.Sets.{has, Avoids}
-use Rattle.cert_check.proofs.SetLemmas.{apart_is}
+use Rattle.tree_text_laws.specs.number_sets.Sets.{has, Avoids}
+use Rattle.cert_check.proofs.Cited.{apart_is}
 use Rattle.tree_parts.proofs.Tokens.{one_set, wider}
 use Rattle.tree_parts.proofs.set.set_line.Goals as goal
 

@@ -1,8 +1,8 @@
 use Rattle.std.proofs.Common.{◌≡◌, true, ℕ, List, length, sym, ap, ◌∙◌, subst, arith}
 use Rattle.std.proofs.lemmas.Bool.{ltb-true, lt-ltb, both_ways}
-use Rattle.number_sets.specs.Sets.{has}
-use Rattle.number_sets.proofs.SetLemmas.{below_from, has_below}
-use Rattle.problem_rules.specs.Problem.{OperatingUnit}
+use Rattle.tree_text_laws.specs.number_sets.Sets.{has}
+use Rattle.tree_text_laws.proofs.number_sets.Cited.{below_from, has_below}
+use Rattle.tree_text_laws.specs.problem_rules.Problem.{OperatingUnit}
 use Rattle.tree_parts.proofs.Tokens.{one_set}
 use Rattle.tree_parts.proofs.set.units_named.Goals as goal
 

@@ -1,10 +1,10 @@
 use Rattle.std.proofs.Common.{◌≤◌, ◌+◌, List, take, length, refl, sym, subst}
-use Rattle.problem_rules.specs.Each.{Each}
-use Rattle.pns_rules.specs.Shape.{shape_of}
+use Rattle.tree_text_laws.specs.problem_rules.Each.{Each}
+use Rattle.tree_text_laws.specs.pns_rules.Shape.{shape_of}
 use Rattle.cert_check.specs.Known.{KnowsInside}
-use Rattle.branch_tree.specs.View.{claim_of}
-use Rattle.tree_text_rules.specs.Part.{Part, start_of}
-use Rattle.tree_text_rules.specs.Several.{AreMerged, StopsAt}
+use Rattle.tree_text_laws.specs.branch_tree.View.{claim_of}
+use Rattle.tree_text_laws.specs.tree_text_rules.Part.{Part, start_of}
+use Rattle.tree_text_laws.specs.tree_text_rules.Several.{AreMerged, StopsAt}
 use Rattle.tree_parts.proofs.InTurn.{rest_on, each_on, more_back, stops_behind}
 use Rattle.tree_parts.proofs.several.merge_all.Goals as goal
 

@@ -1,5 +1,5 @@
 use Rattle.std.proofs.Common.{◌-◌, length}
-use Rattle.branch_tree.specs.View.{claim_of}
+use Rattle.tree_text_laws.specs.branch_tree.View.{claim_of}
 use Rattle.tree_parts.proofs.InTurn.{AreSoFar}
 use Rattle.tree_parts.proofs.several.merge_all.Given as goal
 

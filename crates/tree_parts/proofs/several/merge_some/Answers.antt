@@ -1,18 +1,18 @@
 use Rattle.std.proofs.Common.{◌≡◌, ◌<◌, ◌∷◌, [], List, ap, ◌∙◌, sym, subst, length, IfOk, arith}
-use Rattle.pns_rules.specs.Shape.{shape_of}
-use Rattle.tree_rules.specs.Tree.{IsTree}
-use Rattle.tree_rules.specs.Claim.{Claim}
-use Rattle.tree_rules.specs.Accepted.{first_node}
-use Rattle.branch_tree.specs.View.{claim_of}
-use Rattle.tree_text_rules.specs.OpenLeaves.{OpenAt, open_leaves, IsAmong}
-use Rattle.tree_text_rules.specs.Part.{start_of}
+use Rattle.tree_text_laws.specs.pns_rules.Shape.{shape_of}
+use Rattle.tree_text_laws.specs.tree_rules.Tree.{IsTree}
+use Rattle.tree_text_laws.specs.tree_rules.Claim.{Claim}
+use Rattle.tree_text_laws.specs.tree_rules.Accepted.{first_node}
+use Rattle.tree_text_laws.specs.branch_tree.View.{claim_of}
+use Rattle.tree_text_laws.specs.tree_text_rules.OpenLeaves.{OpenAt, open_leaves, IsAmong}
+use Rattle.tree_text_laws.specs.tree_text_rules.Part.{start_of}
 use Rattle.tree_parts.specs.Splices.{cheapest, settled}
 use Rattle.cert_check.specs.declared.open_leaf.OpenLeaf.{OpenLeaf}
 use Rattle.cert_check.specs.OpenLeaves.{leaves_at}
 use Rattle.tree_parts.specs.Waiting.{splices_of, IsOneMore}
 use Rattle.tree_parts.proofs.Growing.{one_waits, stops_first, stops_without, all_merged}
 use Rattle.tree_parts.proofs.Growing.{stops_at_first}
-use Rattle.tree_rules.specs.Accepted.{Tree}
+use Rattle.tree_text_laws.specs.tree_rules.Accepted.{Tree}
 use Rattle.tree_parts.specs.Splices.{spliced}
 use Rattle.tree_parts.specs.declared.waiting.Waiting.{Waiting}
 use Rattle.tree_parts.specs.Waiting.{AreWithin}

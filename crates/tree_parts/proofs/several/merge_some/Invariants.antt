@@ -1,5 +1,5 @@
 use Rattle.std.proofs.Common.{◌≡◌}
-use Rattle.branch_tree.specs.View.{claim_of}
+use Rattle.tree_text_laws.specs.branch_tree.View.{claim_of}
 use Rattle.tree_parts.specs.Waiting.{splices_of}
 use Rattle.tree_parts.proofs.Growing.{IsGrowing}
 use Rattle.tree_parts.proofs.several.merge_some.Given as goal

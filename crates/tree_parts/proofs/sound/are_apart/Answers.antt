@@ -1,4 +1,4 @@
-use Rattle.cert_check.proofs.SetLemmas.{apart_is}
+use Rattle.cert_check.proofs.Cited.{apart_is}
 use Rattle.tree_parts.proofs.sound.are_apart.Goals as goal
 
 pub returns : goal.returns

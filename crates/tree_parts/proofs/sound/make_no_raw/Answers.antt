@@ -1,5 +1,5 @@
-use Rattle.cert_check.proofs.SetLemmas.{apart_is}
-use Rattle.pgraph.specs.Tables.{shape}
+use Rattle.cert_check.proofs.Cited.{apart_is}
+use Rattle.tree_text_laws.specs.pgraph.Tables.{shape}
 use Rattle.tree_parts.proofs.SoundLemmas.{no_raw_made}
 use Rattle.tree_parts.proofs.sound.make_no_raw.Goals as goal
 

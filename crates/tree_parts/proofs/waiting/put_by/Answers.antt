@@ -1,12 +1,12 @@
 use Rattle.std.proofs.Common.{◌≡◌, ◌++◌, List, take, drop, ap, ◌∙◌, sym, subst}
-use Rattle.number_sets.specs.Sets.{has}
-use Rattle.pns_rules.specs.Nodes.{Node}
-use Rattle.pgraph.specs.View.{node_of}
-use Rattle.tree_rules.specs.Accepted.{Tree}
-use Rattle.tree_text_rules.specs.OpenLeaves.{IsAmong}
+use Rattle.tree_text_laws.specs.number_sets.Sets.{has}
+use Rattle.tree_text_laws.specs.pns_rules.Nodes.{Node}
+use Rattle.tree_text_laws.specs.pgraph.View.{node_of}
+use Rattle.tree_text_laws.specs.tree_rules.Accepted.{Tree}
+use Rattle.tree_text_laws.specs.tree_text_rules.OpenLeaves.{IsAmong}
 use Rattle.cert_check.specs.OpenLeaves.{leaves_at}
 use Rattle.tree_parts.specs.Splices.{AllBelow, AllAbove}
-use Rattle.tree_text_rules.specs.Part.{start_of}
+use Rattle.tree_text_laws.specs.tree_text_rules.Part.{start_of}
 use Rattle.tree_parts.specs.declared.waiting.Waiting.{Waiting}
 use Rattle.tree_parts.specs.Waiting.{splices_of}
 use Rattle.tree_parts.proofs.LaidNodes.{one_more}

@@ -1,6 +1,6 @@
 use Rattle.std.proofs.Common.{◌≡◌}
-use Rattle.problem_rules.specs.Each.{Each}
-use Rattle.tree_rules.specs.Known.{KnowsColumn}
+use Rattle.tree_text_rules.specs.problem_rules.Each.{Each}
+use Rattle.tree_text_rules.specs.tree_rules.Known.{KnowsColumn}
 use Rattle.tree_text_rules.specs.Token as rules
 use Rattle.tree_reading.specs.Joined.{so_far, joined}
 use Rattle.tree_reading.specs.View.{tokens_in, size_in}

@@ -1,5 +1,5 @@
 use Rattle.std.proofs.Common.{List, Ok, ap, refl}
-use Rattle.flow_rules.specs.declared.place.Column.{Column}
+use Rattle.tree_text_rules.specs.flow_rules.declared.place.Column.{Column}
 use Rattle.tree_reading.proofs.column_list.take_column.Goals as goal
 
 pub returns-in-Some-Err-clause-next : goal.returns-in-Some-Err-clause-next

@@ -1,8 +1,8 @@
 use Rattle.std.proofs.Common.{Result, Ok, Err, IfOk}
-use Rattle.problem_rules.specs.Problem.{Problem}
+use Rattle.tree_text_rules.specs.problem_rules.Problem.{Problem}
 use Rattle.branch_tree.specs.View.{end_of}
 use Rattle.branch_tree.specs.declared.end.End.{End}
-use Rattle.tree_rules.specs.Known.{KnowsEnd}
+use Rattle.tree_text_rules.specs.tree_rules.Known.{KnowsEnd}
 use Rattle.tree_reading.proofs.ends.end_line.Goals as goal
 
 -- an end that each problem knows

@@ -2,9 +2,9 @@ use Rattle.std.proofs.Common.{◌≡◌, ◌∙◌, ◌++◌, ◌∷◌, [], Lis
 use Rattle.std.proofs.Common.{rules}
 use Rattle.std.proofs.Common.{arith}
 use Rattle.std.proofs.lemmas.Result.{err_from_is_err_and}
-use Rattle.problem_rules.specs.Each.{Each}
-use Rattle.tree_rules.specs.Head as heads
-use Rattle.tree_rules.specs.HeadKnown.{KnowsLine}
+use Rattle.tree_text_rules.specs.problem_rules.Each.{Each}
+use Rattle.tree_text_rules.specs.tree_rules.Head as heads
+use Rattle.tree_text_rules.specs.tree_rules.HeadKnown.{KnowsLine}
 use Rattle.branch_tree.specs.HeadView.{line_of, lines_of}
 use Rattle.branch_tree.specs.declared.line.HeadLine.{HeadLine}
 use Rattle.tree_text_rules.specs.Read.{front_taken}

@@ -1,5 +1,5 @@
 use Rattle.std.proofs.Common.{◌≡◌, None, ◌-◌, length}
-use Rattle.tree_rules.specs.HeadKnown.{KnowsHead}
+use Rattle.tree_text_rules.specs.tree_rules.HeadKnown.{KnowsHead}
 use Rattle.branch_tree.specs.HeadView.{lines_of}
 use Rattle.tree_text_rules.specs.Read.{front_taken}
 use Rattle.tree_reading.specs.Place.{IsReached, lines_at}

@@ -1,7 +1,7 @@
 use Rattle.std.proofs.Common.{◌≡◌, [], map, ◌-◌, length}
-use Rattle.problem_rules.specs.Each.{Each}
-use Rattle.pgraph.specs.View.{step_of}
-use Rattle.tree_rules.specs.Known.{KnowsStep}
+use Rattle.tree_text_rules.specs.problem_rules.Each.{Each}
+use Rattle.branch_tree.specs.pgraph.View.{step_of}
+use Rattle.tree_text_rules.specs.tree_rules.Known.{KnowsStep}
 use Rattle.tree_text_rules.specs.Read.{steps_taken}
 use Rattle.tree_reading.specs.Place.{IsReached, lines_at}
 use Rattle.tree_reading.proofs.head.read_steps.Given as goal

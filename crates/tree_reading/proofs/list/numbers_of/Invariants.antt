@@ -1,5 +1,5 @@
 use Rattle.std.proofs.Common.{◌≡◌, Ok}
-use Rattle.integer_laws.specs.Range.{AllInRange}
+use Rattle.tree_text_rules.specs.integer_laws.Range.{AllInRange}
 use Rattle.tree_text_rules.specs.Token as rules
 use Rattle.tree_reading.specs.Joined.{joined}
 use Rattle.tree_reading.specs.View.{tokens_in, size_in}

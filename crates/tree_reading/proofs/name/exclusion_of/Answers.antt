@@ -1,6 +1,6 @@
 use Rattle.std.proofs.Common.{◌≡◌, true, false, sym, arith}
 use Rattle.std.specs.Str.{bytes_eq}
-use Rattle.problem_rules.specs.Problem.{Exclusion}
+use Rattle.tree_text_rules.specs.problem_rules.Problem.{Exclusion}
 use Rattle.tree_reading.proofs.Naming.{found, passed, nowhere_in}
 use Rattle.tree_reading.proofs.name.exclusion_of.Goals as goal
 

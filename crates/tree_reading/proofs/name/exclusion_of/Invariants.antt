@@ -1,7 +1,7 @@
 use Rattle.std.proofs.Common.{◌≡◌, ◌+◌, drop}
 use Rattle.std.specs.List.{position_or_len}
 use Rattle.std.specs.Str.{bytes_eq}
-use Rattle.problem_rules.specs.Problem.{exclusion_names}
+use Rattle.tree_text_rules.specs.problem_rules.Problem.{exclusion_names}
 use Rattle.tree_reading.proofs.name.exclusion_of.Given as goal
 
 -- none so far

@@ -1,5 +1,5 @@
 use Rattle.std.proofs.Common.{sym}
-use Rattle.problem_rules.specs.Problem.{Material, material_names}
+use Rattle.tree_text_rules.specs.problem_rules.Problem.{Material, material_names}
 use Rattle.tree_reading.proofs.Naming.{named, named_below, no_material}
 use Rattle.tree_reading.proofs.name.material_of.Goals as goal
 

@@ -1,5 +1,5 @@
 use Rattle.std.proofs.Common.{sym}
-use Rattle.problem_rules.specs.Problem.{OperatingUnit, unit_names}
+use Rattle.tree_text_rules.specs.problem_rules.Problem.{OperatingUnit, unit_names}
 use Rattle.tree_reading.proofs.Naming.{named, named_below, no_unit}
 use Rattle.tree_reading.proofs.name.unit_of.Goals as goal
 

@@ -1,9 +1,9 @@
 use Rattle.std.proofs.Common.{◌≡◌, ◌+◌, List, map, rules, sym, subst}
 use Rattle.std.proofs.lemmas.Result.{err_from_is_err_and}
-use Rattle.pns_rules.specs.Nodes.{Step}
-use Rattle.pgraph.specs.View.{step_of}
+use Rattle.tree_text_rules.specs.pns_rules.Nodes.{Step}
+use Rattle.branch_tree.specs.pgraph.View.{step_of}
 use Rattle.branch_tree.specs.View.{end_of}
-use Rattle.tree_rules.specs.Tree.{children}
+use Rattle.tree_text_rules.specs.tree_rules.Tree.{children}
 use Rattle.tree_text_rules.specs.Read.{Head, with_end, with_node, between, nodes_taken}
 use Rattle.tree_reading.specs.Gives.{begun}
 use Rattle.tree_reading.specs.Place.{lines_at}

@@ -1,7 +1,7 @@
 use Rattle.std.proofs.Common.{◌≡◌, ◌≤◌, [], ◌-◌, length}
-use Rattle.problem_rules.specs.Each.{Each}
-use Rattle.pgraph.specs.CoversView.{covers_of}
-use Rattle.tree_rules.specs.Known.{KnowsCover}
+use Rattle.tree_text_rules.specs.problem_rules.Each.{Each}
+use Rattle.branch_tree.specs.pgraph.CoversView.{covers_of}
+use Rattle.tree_text_rules.specs.tree_rules.Known.{KnowsCover}
 use Rattle.tree_text_rules.specs.Read.{covers_taken}
 use Rattle.tree_reading.specs.Place.{IsReached, lines_at}
 use Rattle.tree_reading.proofs.node.read_sets.Given as goal

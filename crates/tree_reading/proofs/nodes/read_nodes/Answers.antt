@@ -1,9 +1,9 @@
 use Rattle.std.proofs.Common.{◌≤◌, ◌+◌, length, Ok, ap, sym, subst, ◌∙◌, rules, arith}
 use Rattle.std.proofs.lemmas.List.{length_push}
 use Rattle.std.proofs.lemmas.Result.{err_from_is_err_and}
-use Rattle.problem_rules.specs.Each.{Each}
-use Rattle.tree_rules.specs.Known.{KnowsNode}
-use Rattle.tree_rules.specs.Accepted.{Tree}
+use Rattle.tree_text_rules.specs.problem_rules.Each.{Each}
+use Rattle.tree_text_rules.specs.tree_rules.Known.{KnowsNode}
+use Rattle.tree_text_rules.specs.tree_rules.Accepted.{Tree}
 use Rattle.tree_reading.specs.Place.{lines_at}
 use Rattle.tree_reading.specs.Taken.{taken}
 use Rattle.tree_reading.proofs.NodeByNode.{node_on, node_told, nodes_done, nodes_tree, option_on}

@@ -1,5 +1,5 @@
 use Rattle.std.proofs.Common.{◌≤◌, ◌*◌, ◌-◌, [], zero, length}
-use Rattle.tree_rules.specs.Known.{AreUnits, KnowsTree}
+use Rattle.tree_text_rules.specs.tree_rules.Known.{AreUnits, KnowsTree}
 use Rattle.tree_reading.specs.Gives.{begun}
 use Rattle.tree_reading.specs.Place.{IsReached, lines_at}
 use Rattle.tree_reading.proofs.NodeByNode.{IsBegun}

@@ -1,6 +1,6 @@
 use Rattle.std.proofs.Common.{refl}
 use Rattle.std.proofs.lemmas.Result.{err_from_is_err_and, IfOk-at_ok}
-use Rattle.flow_rules.specs.declared.place.Place.TheVariants.{Refute}
+use Rattle.tree_text_rules.specs.flow_rules.declared.place.Place.TheVariants.{Refute}
 use Rattle.tree_text_rules.specs.Token as rules
 use Rattle.tree_reading.specs.View.{tokens_in}
 use Rattle.tree_reading.proofs.Counted.{not_two}

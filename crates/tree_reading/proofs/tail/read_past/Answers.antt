@@ -1,7 +1,7 @@
 use Rattle.std.proofs.Common.{◌≡◌, ℕ, suc, List, Result, Ok, rules, sym, subst}
 use Rattle.std.proofs.lemmas.Result.{err_from_is_err_and}
-use Rattle.flow_rules.specs.declared.place.Column.{Column}
-use Rattle.tree_rules.specs.Tail.{Tail, past}
+use Rattle.tree_text_rules.specs.flow_rules.declared.place.Column.{Column}
+use Rattle.tree_text_rules.specs.tree_rules.Tail.{Tail, past}
 use Rattle.tree_text_rules.specs.Line.{Line}
 use Rattle.tree_text_rules.specs.LineRead.{nonbasic_read, place_read}
 use Rattle.tree_text_rules.specs.Read.{Fault, first_line, close_taken}

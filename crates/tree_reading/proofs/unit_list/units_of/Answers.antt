@@ -2,8 +2,8 @@ use Rattle.std.proofs.Common.{◌∷◌, [], ◌++◌, Ok, length, position, ap,
 use Rattle.std.proofs.lemmas.Bool.Decides.{nat_tests}
 use Rattle.std.proofs.lemmas.Result.{err_from_is_err_and}
 use Rattle.std.specs.Str.{bytes_eq}
-use Rattle.number_sets.specs.Sets.{AreBelow}
-use Rattle.problem_rules.specs.Problem.{unit_names}
+use Rattle.tree_text_rules.specs.number_sets.Sets.{AreBelow}
+use Rattle.tree_text_rules.specs.problem_rules.Problem.{unit_names}
 use Rattle.tree_text_rules.specs.Token as token
 use Rattle.tree_text_rules.specs.declared.TreeKind.TheVariants.{Order, UnknownName}
 use Rattle.tree_reading.specs.View.{tokens_in}

@@ -1,5 +1,5 @@
 use Rattle.std.proofs.Common.{◌≡◌, List, ℕ, Ok, length}
-use Rattle.number_sets.specs.Sets.{AreBelow}
+use Rattle.tree_text_rules.specs.number_sets.Sets.{AreBelow}
 use Rattle.tree_text_rules.specs.Token as rules
 use Rattle.tree_reading.specs.Joined.{joined}
 use Rattle.tree_reading.specs.View.{tokens_in, size_in}

@@ -1,6 +1,6 @@
 use Rattle.std.proofs.Common.{◌≡◌, map, drop, string_bytes}
-use Rattle.problem_rules.specs.Each.{Each}
-use Rattle.tree_rules.specs.Known.{KnowsColumn}
+use Rattle.tree_text_rules.specs.problem_rules.Each.{Each}
+use Rattle.tree_text_rules.specs.tree_rules.Known.{KnowsColumn}
 use Rattle.tree_text_rules.specs.Spelling.{column_text}
 use Rattle.tree_text.specs.Printing.{appended}
 use Rattle.tree_text.proofs.column.push_columns.Given as goal

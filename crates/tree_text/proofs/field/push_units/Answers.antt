@@ -1,6 +1,6 @@
 use Rattle.std.proofs.Common.{map, sym, ap, List, ℕ, string_bytes, ◌∙◌}
 use Rattle.tree_text_rules.specs.Spelling.{unit_name}
-use Rattle.flow_program.proofs.WalkLemmas.{next_of}
+use Rattle.flow_program.proofs.Cited.{next_of}
 use Rattle.tree_text.specs.Printing.{appended}
 use Rattle.tree_text.proofs.field.push_units.Goals as goal
 

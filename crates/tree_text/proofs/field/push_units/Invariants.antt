@@ -1,5 +1,5 @@
 use Rattle.std.proofs.Common.{◌≡◌, map, string_bytes}
-use Rattle.tree_rules.specs.Known.{AreUnits}
+use Rattle.tree_text_rules.specs.tree_rules.Known.{AreUnits}
 use Rattle.tree_text_rules.specs.Spelling.{unit_name}
 use Rattle.tree_text.specs.Printing.{appended}
 use Rattle.tree_text.proofs.field.push_units.Given as goal

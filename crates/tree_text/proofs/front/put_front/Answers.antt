@@ -1,6 +1,6 @@
 use Rattle.std.proofs.Common.{List, subst, ap}
 use Rattle.std.proofs.lemmas.List.{drop_all}
-use Rattle.tree_rules.specs.HeadKnown.{KnowsHead}
+use Rattle.tree_text_rules.specs.tree_rules.HeadKnown.{KnowsHead}
 use Rattle.branch_tree.specs.HeadView.{lines_of}
 use Rattle.branch_tree.specs.declared.line.HeadLine.{HeadLine}
 use Rattle.tree_text_rules.specs.Spelling.{front_lines}

@@ -1,5 +1,5 @@
 use Rattle.std.proofs.Common.{drop}
-use Rattle.tree_rules.specs.HeadKnown.{KnowsHead}
+use Rattle.tree_text_rules.specs.tree_rules.HeadKnown.{KnowsHead}
 use Rattle.branch_tree.specs.HeadView.{lines_of}
 use Rattle.tree_text_rules.specs.Spelling.{front_lines}
 use Rattle.tree_text.proofs.Printed.{Finishes}

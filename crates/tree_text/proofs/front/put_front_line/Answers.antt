@@ -2,8 +2,8 @@ use Rattle.std.proofs.Common.{◌≡◌, ◌∷◌, ◌∙◌, [], List, ℤ, ma
 use Rattle.std.specs.Int.{w128}
 use Rattle.std.specs.Fmt.{signed_decimal}
 use Rattle.std.proofs.lemmas.Int.{to_z-of_z}
-use Rattle.flow_rules.specs.Cover.{Cover}
-use Rattle.tree_rules.specs.Head as heads
+use Rattle.tree_text_rules.specs.flow_rules.Cover.{Cover}
+use Rattle.tree_text_rules.specs.tree_rules.Head as heads
 use Rattle.branch_tree.specs.HeadView.{line_of}
 use Rattle.branch_tree.specs.declared.line.HeadLine.{HeadLine}
 use Rattle.tree_text_rules.specs.Spelling.{front_with_sets}

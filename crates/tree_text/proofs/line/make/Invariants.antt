@@ -1,6 +1,6 @@
 use Rattle.std.proofs.Common.{◌≡◌, ◌∷◌, drop, string_bytes}
-use Rattle.problem_rules.specs.Each.{Each}
-use Rattle.text_rules.specs.Canonical.{joined}
+use Rattle.tree_text_rules.specs.problem_rules.Each.{Each}
+use Rattle.tree_text_rules.specs.text_rules.Canonical.{joined}
 use Rattle.tree_text.specs.Printing.{appended}
 use Rattle.tree_text.specs.Fields.{KnowsField, tokens_of}
 use Rattle.tree_text.proofs.line.make.Given as goal

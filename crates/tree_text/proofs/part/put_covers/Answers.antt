@@ -1,9 +1,9 @@
 use Rattle.std.proofs.Common.{map, subst, List, ap}
 use Rattle.std.proofs.lemmas.List.{drop_all}
-use Rattle.problem_rules.specs.Each.{Each}
-use Rattle.pgraph.specs.CoversView.{covers_of}
-use Rattle.pgraph.specs.declared.cover.Cover.{Cover}
-use Rattle.tree_rules.specs.Known.{KnowsCover}
+use Rattle.tree_text_rules.specs.problem_rules.Each.{Each}
+use Rattle.flow_program.specs.pgraph.CoversView.{covers_of}
+use Rattle.flow_program.specs.pgraph.declared.cover.Cover.{Cover}
+use Rattle.tree_text_rules.specs.tree_rules.Known.{KnowsCover}
 use Rattle.tree_text_rules.specs.Spelling.{cover_line}
 use Rattle.tree_text.proofs.Printed.{none_put, both_put, first_failed, item_ahead}
 use Rattle.tree_text.proofs.part.put_covers.Goals as goal

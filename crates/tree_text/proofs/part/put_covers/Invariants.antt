@@ -1,7 +1,7 @@
 use Rattle.std.proofs.Common.{map, drop}
-use Rattle.problem_rules.specs.Each.{Each}
-use Rattle.pgraph.specs.CoversView.{covers_of}
-use Rattle.tree_rules.specs.Known.{KnowsCover}
+use Rattle.tree_text_rules.specs.problem_rules.Each.{Each}
+use Rattle.flow_program.specs.pgraph.CoversView.{covers_of}
+use Rattle.tree_text_rules.specs.tree_rules.Known.{KnowsCover}
 use Rattle.tree_text_rules.specs.Spelling.{cover_line}
 use Rattle.tree_text.proofs.Printed.{Finishes}
 use Rattle.tree_text.proofs.part.put_covers.Given as goal

@@ -1,9 +1,9 @@
 use Rattle.std.proofs.Common.{map, subst, List, ap, refl}
 use Rattle.std.proofs.lemmas.List.{drop_all}
-use Rattle.problem_rules.specs.Each.{Each}
-use Rattle.unit_sets.specs.declared.step.Step.{Step}
-use Rattle.pgraph.specs.View.{step_of}
-use Rattle.tree_rules.specs.Known.{KnowsStep}
+use Rattle.tree_text_rules.specs.problem_rules.Each.{Each}
+use Rattle.flow_program.specs.unit_sets.declared.step.Step.{Step}
+use Rattle.flow_program.specs.pgraph.View.{step_of}
+use Rattle.tree_text_rules.specs.tree_rules.Known.{KnowsStep}
 use Rattle.tree_text_rules.specs.Spelling.{step_line}
 use Rattle.tree_text.proofs.Printed.{none_put, both_put, first_failed, item_ahead}
 use Rattle.tree_text.proofs.part.put_head.Goals as goal

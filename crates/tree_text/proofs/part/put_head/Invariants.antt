@@ -1,7 +1,7 @@
 use Rattle.std.proofs.Common.{map, drop}
-use Rattle.problem_rules.specs.Each.{Each}
-use Rattle.pgraph.specs.View.{step_of}
-use Rattle.tree_rules.specs.Known.{KnowsStep}
+use Rattle.tree_text_rules.specs.problem_rules.Each.{Each}
+use Rattle.flow_program.specs.pgraph.View.{step_of}
+use Rattle.tree_text_rules.specs.tree_rules.Known.{KnowsStep}
 use Rattle.tree_text_rules.specs.Spelling.{step_line, head_lines}
 use Rattle.tree_text.proofs.Printed.{Finishes}
 use Rattle.tree_text.proofs.part.put_head.Given as goal

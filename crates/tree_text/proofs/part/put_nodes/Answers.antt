@@ -1,7 +1,7 @@
 use Rattle.std.proofs.Common.{subst, ap}
 use Rattle.std.proofs.lemmas.List.{drop_all}
-use Rattle.tree_rules.specs.Known.{KnowsTree}
-use Rattle.tree_rules.specs.Accepted.{Tree}
+use Rattle.tree_text_rules.specs.tree_rules.Known.{KnowsTree}
+use Rattle.tree_text_rules.specs.tree_rules.Accepted.{Tree}
 use Rattle.tree_text_rules.specs.Spelling.{tree_lines}
 use Rattle.tree_text.proofs.Printed.{none_put, both_put, first_failed, item_ahead}
 use Rattle.tree_text.proofs.part.put_nodes.Goals as goal

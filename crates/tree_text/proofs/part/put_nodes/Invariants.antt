@@ -1,5 +1,5 @@
 use Rattle.std.proofs.Common.{drop}
-use Rattle.tree_rules.specs.Known.{KnowsTree}
+use Rattle.tree_text_rules.specs.tree_rules.Known.{KnowsTree}
 use Rattle.tree_text_rules.specs.Spelling.{tree_lines}
 use Rattle.tree_text.proofs.Printed.{Finishes}
 use Rattle.tree_text.proofs.part.put_nodes.Given as goal

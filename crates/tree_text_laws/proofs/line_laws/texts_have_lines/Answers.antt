@@ -1,5 +1,5 @@
-use Rattle.text_laws.proofs.Each.{each-to}
-use Rattle.problem_rules.specs.Each.{Each}
+use Rattle.text_laws.proofs.Cited.{each-to}
+use Rattle.tree_text_rules.specs.problem_rules.Each.{Each}
 use Rattle.tree_text_laws.specs.Codes.{IsToken}
 use Rattle.tree_text_laws.proofs.Pieces.{text_again, HasNoFeed}
 use Rattle.tree_text_laws.proofs.Said.{no_feed}

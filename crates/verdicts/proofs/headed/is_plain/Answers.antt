@@ -1,5 +1,5 @@
 use Rattle.std.proofs.Common.{ap, ◌∙◌, List}
-use Rattle.tree_rules.specs.Head.{HeadLine}
+use Rattle.report_rules.specs.tree_rules.Head.{HeadLine}
 use Rattle.report_rules.specs.HeadedVerdict.{is_plain}
 use Rattle.verdicts.proofs.HeadedLemmas.{plain_of}
 use Rattle.verdicts.proofs.headed.is_plain.Goals as goal

@@ -1,7 +1,7 @@
 use Rattle.std.proofs.Common.{◌≡◌, List, ap, ◌∙◌}
-use Rattle.cert_check.specs.declared.open_leaf.OpenLeaf.{OpenLeaf}
-use Rattle.cert_check.specs.OpenLeaves.{leaves_at}
-use Rattle.branch_tree.specs.View.{claim_of}
+use Rattle.tree_parts.specs.cert_check.declared.open_leaf.OpenLeaf.{OpenLeaf}
+use Rattle.tree_parts.specs.cert_check.OpenLeaves.{leaves_at}
+use Rattle.tree_parts.specs.branch_tree.View.{claim_of}
 use Rattle.verdicts.proofs.LowLemmas.{is_low, enough}
 use Rattle.verdicts.proofs.low.low_of.Goals as goal
 

@@ -1,11 +1,11 @@
 use Rattle.std.proofs.Common.{◌≡◌, ◌∷◌, [], true, sym, subst}
 use Rattle.std.specs.Prelude.{IfOk, OnOk}
-use Rattle.pns_rules.specs.Shape.{shape_of}
-use Rattle.pns_rules.specs.Nodes.{Node}
-use Rattle.tree_text_rules.specs.OpenLeaves.{open_leaves}
-use Rattle.cert_check.specs.OpenLeaves.{leaves_at}
-use Rattle.tree_rules.specs.Accepted.{Proves}
-use Rattle.branch_tree.specs.View.{claim_of}
+use Rattle.report_rules.specs.pns_rules.Shape.{shape_of}
+use Rattle.report_rules.specs.pns_rules.Nodes.{Node}
+use Rattle.report_rules.specs.tree_text_rules.OpenLeaves.{open_leaves}
+use Rattle.tree_parts.specs.cert_check.OpenLeaves.{leaves_at}
+use Rattle.report_rules.specs.tree_rules.Accepted.{Proves}
+use Rattle.tree_parts.specs.branch_tree.View.{claim_of}
 use Rattle.verdicts.proofs.LowerLemmas.{at_first}
 use Rattle.verdicts.proofs.low.walked.Goals as goal
 

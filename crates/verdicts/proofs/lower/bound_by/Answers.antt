@@ -1,8 +1,8 @@
 use Rattle.std.proofs.Common.{◌≡◌, ◌∙◌, ℤ, pos, ◌≤ℤ◌, SFits, to_z, of_z, rules, sym, subst}
 use Rattle.std.specs.Int.{w128}
 use Rattle.std.proofs.lemmas.Int.{to_z-of_z}
-use Rattle.integer_laws.specs.Range.{InRange}
-use Rattle.pgraph.specs.View.{node_of}
+use Rattle.report_rules.specs.integer_laws.Range.{InRange}
+use Rattle.tree_parts.specs.pgraph.View.{node_of}
 use Rattle.verdicts.proofs.LowerLemmas.{never_past, cost_in_range}
 use Rattle.verdicts.proofs.lower.bound_by.Goals as goal
 

@@ -1,7 +1,7 @@
 use Rattle.std.proofs.Common.{◌≡◌, ◌∙◌, Option, ap, sym}
-use Rattle.pgraph.specs.View.{node_of}
-use Rattle.tree_rules.specs.Leaf.{Scaled, untried}
-use Rattle.tree_rules.specs.Lower.{leaf_low}
+use Rattle.tree_parts.specs.pgraph.View.{node_of}
+use Rattle.report_rules.specs.tree_rules.Leaf.{Scaled, untried}
+use Rattle.report_rules.specs.tree_rules.Lower.{leaf_low}
 use Rattle.verdicts.proofs.lower.leaf_bound.Goals as goal
 
 pub returns-in-Some : goal.returns-in-Some

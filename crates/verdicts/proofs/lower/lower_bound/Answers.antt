@@ -1,9 +1,9 @@
 use Rattle.std.proofs.Common.{◌≡◌, ◌∙◌, ◌-◌, ◌<◌, ◌≤◌, ℕ, suc, length, drop, Option, Some, None}
 use Rattle.std.proofs.Common.{ap, sym, subst, arith}
-use Rattle.branch_tree.specs.View.{claim_of}
-use Rattle.tree_rules.specs.Claim.{CostOver}
-use Rattle.tree_rules.specs.Lower.{least}
-use Rattle.cert_check.specs.OpenLeaves.{leaf_at, leaves_at}
+use Rattle.tree_parts.specs.branch_tree.View.{claim_of}
+use Rattle.report_rules.specs.tree_rules.Claim.{CostOver}
+use Rattle.report_rules.specs.tree_rules.Lower.{least}
+use Rattle.tree_parts.specs.cert_check.OpenLeaves.{leaf_at, leaves_at}
 use Rattle.report_rules.specs.Verdict.{cost_of}
 use Rattle.verdicts.specs.Lower.{as_low, lows}
 use Rattle.verdicts.proofs.LowerLemmas.{leaf_read, one_more, none_here, none_left, formed_there}

@@ -1,5 +1,5 @@
 use Rattle.std.proofs.Common.{◌≡◌, ◌≤◌, length, drop, Some}
-use Rattle.cert_check.specs.OpenLeaves.{leaves_at}
+use Rattle.tree_parts.specs.cert_check.OpenLeaves.{leaves_at}
 use Rattle.report_rules.specs.Verdict.{cost_of}
 use Rattle.verdicts.specs.Lower.{lows}
 use Rattle.verdicts.proofs.lower.lower_bound.Given as goal

@@ -1,7 +1,7 @@
 use Rattle.std.proofs.Common.{◌≡◌, ◌+◌, ◌∙◌, ap, drop, map, List}
-use Rattle.tree_rules.specs.Leaf.{Leaf}
-use Rattle.tree_rules.specs.Tree.{TreeNode}
-use Rattle.rank_rules.specs.Marked.{Mark, marked, marked_node, marks_behind}
+use Rattle.report_rules.specs.tree_rules.Leaf.{Leaf}
+use Rattle.report_rules.specs.tree_rules.Tree.{TreeNode}
+use Rattle.report_rules.specs.rank_rules.Marked.{Mark, marked, marked_node, marks_behind}
 use Rattle.rank_check.specs.View.{mark_of}
 use Rattle.report_rules.specs.RankLow.{plain_node, plain_tree}
 use Rattle.verdicts.proofs.PlainLemmas.{node_ahead, one_more, all_done}

@@ -1,5 +1,5 @@
 use Rattle.std.proofs.Common.{◌≡◌, ◌++◌, drop, map}
-use Rattle.rank_rules.specs.Marked.{marked}
+use Rattle.report_rules.specs.rank_rules.Marked.{marked}
 use Rattle.rank_check.specs.View.{mark_of}
 use Rattle.report_rules.specs.RankLow.{plain_tree}
 use Rattle.verdicts.proofs.plain.plain_nodes.Given as goal

@@ -1,7 +1,7 @@
 use Rattle.std.proofs.Common.{◌≡◌, ◌∙◌, sym, subst}
-use Rattle.tree_rules.specs.Tree.{IsTree}
-use Rattle.tree_rules.specs.Accepted.{Tree}
-use Rattle.rank_rules.specs.Marked.{marked}
+use Rattle.report_rules.specs.tree_rules.Tree.{IsTree}
+use Rattle.report_rules.specs.tree_rules.Accepted.{Tree}
+use Rattle.report_rules.specs.rank_rules.Marked.{marked}
 use Rattle.report_rules.specs.RankLow.{plain_tree}
 use Rattle.verdicts.proofs.PlainLemmas.{is_tree}
 use Rattle.verdicts.proofs.plain.plain_tree.Goals as goal

@@ -1,8 +1,8 @@
 use Rattle.std.proofs.Common.{◌≡◌, ◌<◌, ◌^◌, ◌∙◌, ℕ, sym, subst, ap, length, List}
-use Rattle.tree_rules.specs.Accepted.{Tree}
-use Rattle.tree_rules.specs.Claim.{Claim, Network}
-use Rattle.rank_rules.specs.Marked.{marked}
-use Rattle.branch_tree.specs.View.{claim_of}
+use Rattle.report_rules.specs.tree_rules.Accepted.{Tree}
+use Rattle.report_rules.specs.tree_rules.Claim.{Claim, Network}
+use Rattle.report_rules.specs.rank_rules.Marked.{marked}
+use Rattle.tree_parts.specs.branch_tree.View.{claim_of}
 use Rattle.report_rules.specs.RankLow.{best_claim, plain_tree, IsLowerBound}
 use Rattle.verdicts.proofs.PlainLemmas.{as_long}
 use Rattle.verdicts.proofs.rank_low.rank_low.Goals as goal

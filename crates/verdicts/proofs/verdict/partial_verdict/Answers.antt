@@ -1,13 +1,13 @@
 use Rattle.std.proofs.Common.{◌≡◌, true, List, subst, ap, ◌∙◌, [], ◌∷◌}
-use Rattle.pns_rules.specs.Shape.{shape_of}
-use Rattle.pns_rules.specs.Nodes.{Node}
-use Rattle.tree_text_rules.specs.OpenLeaves.{open_leaves}
-use Rattle.cert_check.specs.declared.open_leaf.OpenLeaf.{OpenLeaf}
-use Rattle.cert_check.specs.OpenLeaves.{leaves_at}
-use Rattle.tree_rules.specs.Claim.{ClaimPasses}
-use Rattle.tree_rules.specs.Accepted.{Proves, NodeIsFault}
-use Rattle.branch_tree.specs.View.{claim_of}
-use Rattle.pgraph.specs.View.{node_of}
+use Rattle.report_rules.specs.pns_rules.Shape.{shape_of}
+use Rattle.report_rules.specs.pns_rules.Nodes.{Node}
+use Rattle.report_rules.specs.tree_text_rules.OpenLeaves.{open_leaves}
+use Rattle.tree_parts.specs.cert_check.declared.open_leaf.OpenLeaf.{OpenLeaf}
+use Rattle.tree_parts.specs.cert_check.OpenLeaves.{leaves_at}
+use Rattle.report_rules.specs.tree_rules.Claim.{ClaimPasses}
+use Rattle.report_rules.specs.tree_rules.Accepted.{Proves, NodeIsFault}
+use Rattle.tree_parts.specs.branch_tree.View.{claim_of}
+use Rattle.tree_parts.specs.pgraph.View.{node_of}
 use Rattle.verdicts.proofs.LowerLemmas.{at_first}
 use Rattle.verdicts.proofs.verdict.partial_verdict.Goals as goal
 

@@ -1,6 +1,6 @@
 use Rattle.std.proofs.Common.{Option, sym, subst}
-use Rattle.exact_numbers.specs.Number.{numerator, denominator}
-use Rattle.tree_rules.specs.Claim.{CostOver, IsAtMost}
+use Rattle.node_evaluation.specs.exact_numbers.Number.{numerator, denominator}
+use Rattle.node_evaluation.specs.tree_rules.Claim.{CostOver, IsAtMost}
 use Rattle.abb_search.specs.Rounds.{undercut_of}
 use Rattle.abb_search.proofs.RoundLemmas.{undercuts_by, reaches}
 use Rattle.abb_search.proofs.rounds.Goal.may_be_undercut.Goals as goal

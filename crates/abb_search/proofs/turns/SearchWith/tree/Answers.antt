@@ -1,7 +1,7 @@
 use Rattle.std.proofs.Common.{ap, ◌∙◌, subst}
-use Rattle.pgraph.specs.View.{node_of}
+use Rattle.node_evaluation.specs.pgraph.View.{node_of}
 use Rattle.node_evaluation.specs.Children.{claim_with}
-use Rattle.tree_rules.specs.Proved.{IsStopped}
+use Rattle.node_evaluation.specs.tree_rules.Proved.{IsStopped}
 use Rattle.abb_search.specs.Searched.{Searched, AreNodesOf}
 use Rattle.abb_search.proofs.EndLemmas.{stopped}
 use Rattle.abb_search.proofs.StepLemmas.{stands_tree, nodes_of_tree}

@@ -1,4 +1,4 @@
-use Rattle.number_sets.specs.Sets.{has}
+use Rattle.tree_text_rules.specs.number_sets.Sets.{has}
 use Rattle.cert_check.proofs.known.Known.first.Goals as goal
 
 pub returns : goal.returns

@@ -1,5 +1,5 @@
 use Rattle.std.proofs.Common.{◌≡◌, arith, ap, List, length, None}
-use Rattle.problem_rules.specs.Problem.{OperatingUnit, unit_at}
+use Rattle.structure_list.specs.problem_rules.Problem.{OperatingUnit, unit_at}
 use Rattle.charges.proofs.OwnLemmas.{none_written, same_all, written_all, no_lower, no_upper}
 use Rattle.charges.proofs.facts.Facts.own.Goals as goal
 

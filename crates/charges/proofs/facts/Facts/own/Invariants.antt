@@ -1,4 +1,4 @@
-use Rattle.problem_rules.specs.Problem.{unit_at}
+use Rattle.structure_list.specs.problem_rules.Problem.{unit_at}
 use Rattle.charges.proofs.OwnLemmas.{IsWritten}
 use Rattle.charges.proofs.facts.Facts.own.Given as goal
 

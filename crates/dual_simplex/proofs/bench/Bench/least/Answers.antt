@@ -1,9 +1,9 @@
 use Rattle.std.proofs.Common.{SFits, rules, ◌≡◌, ◌≤◌, ◌∙◌, refl, sym, subst, ap, ℕ, List, length}
 use Rattle.std.proofs.Common.{take, arith}
 use Rattle.std.specs.Prelude.{ℤ, All, Option, Some, None, IfNone, IfSome, Result, IfOk}
-use Rattle.flow_rules.specs.declared.place.Column.{Column}
+use Rattle.flow_program.specs.flow_rules.declared.place.Column.{Column}
 use Rattle.dual_simplex.specs.declared.walk.PastPivot.{PastPivot}
-use Rattle.flow_rules.specs.LinearProgram.{linear_of}
+use Rattle.flow_program.specs.flow_rules.LinearProgram.{linear_of}
 use Rattle.dual_simplex.specs.Walk.{EndsFeasible, EndsRefuting}
 use Rattle.std.specs.Int.{w128}
 use Rattle.std.proofs.lemmas.Int.{to_z-of_z}

@@ -2,7 +2,7 @@ use Rattle.std.proofs.Common.{SFits, rules, ◌≡◌, ◌≤◌, ◌∙◌, ap,
 use Rattle.std.specs.Int.{w128}
 use Rattle.std.proofs.lemmas.Int.{to_z-of_z}
 use Rattle.std.proofs.lemmas.List.{with_items_is}
-use Rattle.flow_rules.specs.LinearProgram.{linear_of}
+use Rattle.flow_program.specs.flow_rules.LinearProgram.{linear_of}
 use Rattle.dual_simplex.specs.Walk.{EndsFeasible}
 use Rattle.dual_simplex.specs.Bench.{Bench}
 use Rattle.dual_simplex.proofs.EndLemmas.{flows_of}

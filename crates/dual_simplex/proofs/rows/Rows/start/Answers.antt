@@ -2,8 +2,8 @@ use Rattle.std.proofs.Common.{rules, ◌≡◌, ◌<◌, ◌≤◌, ◌+◌, ◌
 use Rattle.std.proofs.Common.{◌∙◌, subst, length, get_or, pos}
 use Rattle.std.proofs.lemmas.List.{with_items_is}
 use Rattle.std.specs.Vec.{with_items}
-use Rattle.flow_rules.specs.LinearProgram.{linear_of}
-use Rattle.flow_rules.specs.Columns.{scale_at}
+use Rattle.flow_program.specs.flow_rules.LinearProgram.{linear_of}
+use Rattle.flow_program.specs.flow_rules.Columns.{scale_at}
 use Rattle.dual_simplex.specs.Rows.{Rows, width_of, row_at, table, AreRows}
 use Rattle.dual_simplex.proofs.RowStartLemmas.{rows_fit, rows_are_start}
 use Rattle.dual_simplex.proofs.rows.Rows.start.Goals as goal

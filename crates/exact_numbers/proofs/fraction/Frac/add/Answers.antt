@@ -5,7 +5,7 @@ use Rattle.std.proofs.lemmas.Int.{to_z-of_z}
 use Rattle.integer_laws.specs.Range.{InRange}
 use Rattle.integer_laws.specs.Lowest.{IsLowest}
 use Rattle.exact_numbers.proofs.RangeLemmas.{fits_from_range}
-use Rattle.integer_laws.proofs.Order.{mul_pos}
+use Rattle.integer_laws.proofs.Cited.{mul_pos}
 use Rattle.exact_numbers.proofs.LowestLemmas.{lowest_first_positive}
 use Rattle.exact_numbers.proofs.FractionLemmas.{sum_lowest, no_past_sum}
 use Rattle.exact_numbers.proofs.fraction.Frac.add.Goals as goal

@@ -6,7 +6,7 @@ use Rattle.std.proofs.lemmas.Int.{to_z-of_z}
 use Rattle.integer_laws.specs.Range.{InRange}
 use Rattle.integer_laws.specs.Lowest.{IsLowest}
 use Rattle.exact_numbers.proofs.RangeLemmas.{fits_from_range}
-use Rattle.integer_laws.proofs.Order.{mul_pos}
+use Rattle.integer_laws.proofs.Cited.{mul_pos}
 use Rattle.exact_numbers.proofs.FractionLemmas.{products_coprime, product_lowest, past_lowest}
 use Rattle.exact_numbers.proofs.fraction.Frac.mul.Goals as goal
 

@@ -1,4 +1,4 @@
-use Rattle.pgraph.specs.View.{node_of}
+use Rattle.dual_simplex.specs.pgraph.View.{node_of}
 use Rattle.flow_evaluator.proofs.evaluator.FlowEvaluator.certify.Goals as goal
 
 pub returns-clause-evaluated : goal.returns-clause-evaluated

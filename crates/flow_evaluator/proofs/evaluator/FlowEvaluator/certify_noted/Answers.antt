@@ -1,5 +1,5 @@
 use Rattle.std.proofs.Common.{false}
-use Rattle.pgraph.specs.View.{node_of}
+use Rattle.dual_simplex.specs.pgraph.View.{node_of}
 use Rattle.flow_evaluator.proofs.evaluator.FlowEvaluator.certify_noted.Goals as goal
 
 pub returns-clause-evaluated : goal.returns-clause-evaluated

@@ -1,9 +1,9 @@
 use Rattle.std.proofs.Common.{sym, subst, ap, ◌∙◌}
-use Rattle.problem_rules.specs.Problem.{Problem}
-use Rattle.pns_rules.specs.Shape.{shape_of}
-use Rattle.pns_rules.specs.Nodes.{Node}
-use Rattle.pns_rules.specs.Ends.{IsSound, IsDecided}
-use Rattle.tree_rules.specs.LeastFlows.{decided}
+use Rattle.dual_simplex.specs.problem_rules.Problem.{Problem}
+use Rattle.dual_simplex.specs.pns_rules.Shape.{shape_of}
+use Rattle.dual_simplex.specs.pns_rules.Nodes.{Node}
+use Rattle.dual_simplex.specs.pns_rules.Ends.{IsSound, IsDecided}
+use Rattle.node_evaluation.specs.tree_rules.LeastFlows.{decided}
 use Rattle.flow_evaluator.proofs.evaluator.FlowEvaluator.network_of.Goals as goal
 
 pub look-requires-clause-sound : goal.look-requires-clause-sound

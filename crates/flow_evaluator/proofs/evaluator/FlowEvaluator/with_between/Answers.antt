@@ -1,10 +1,10 @@
 use Rattle.std.proofs.Common.{Some, IfSome, Option, subst}
-use Rattle.pgraph.specs.View.{node_of}
+use Rattle.dual_simplex.specs.pgraph.View.{node_of}
 use Rattle.certified_bounds.specs.declared.certified.Between.{Between}
 use Rattle.certified_bounds.specs.Certified.{IsBetween}
 use Rattle.node_evaluation.specs.Evaluated.{IsEvaluated}
 use Rattle.node_evaluation.specs.declared.evaluator.Evaluation.TheVariants.{Stopped}
-use Rattle.tree_rules.specs.Past.{IsPastAt}
+use Rattle.node_evaluation.specs.tree_rules.Past.{IsPastAt}
 use Rattle.flow_evaluator.proofs.ToldLemmas.{between_is}
 use Rattle.flow_evaluator.proofs.evaluator.FlowEvaluator.with_between.Goals as goal
 

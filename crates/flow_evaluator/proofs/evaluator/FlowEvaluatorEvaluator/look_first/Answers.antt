@@ -1,4 +1,4 @@
-use Rattle.pgraph.specs.View.{node_of}
+use Rattle.dual_simplex.specs.pgraph.View.{node_of}
 use Rattle.flow_evaluator.proofs.evaluator.FlowEvaluatorEvaluator.look_first.Goals as goal
 
 pub returns-clause-first : goal.returns-clause-first

@@ -2,16 +2,16 @@ use Rattle.std.proofs.Common.{◌≡◌, ◌∙◌, sym, ap, SFits, rules, ℕ, 
 use Rattle.std.proofs.Common.{subst}
 use Rattle.std.specs.Int.{w128}
 use Rattle.std.proofs.lemmas.Int.{to_z-of_z}
-use Rattle.number_sets.specs.Sets.{has, listed}
-use Rattle.pns_rules.specs.Shape.{Shape}
-use Rattle.pns_rules.specs.Structure.{mats}
-use Rattle.flow_rules.specs.Net.{net_of}
+use Rattle.pgraph.specs.number_sets.Sets.{has, listed}
+use Rattle.pgraph.specs.pns_rules.Shape.{Shape}
+use Rattle.pgraph.specs.pns_rules.Structure.{mats}
+use Rattle.pgraph.specs.flow_rules.Net.{net_of}
 use Rattle.flow_program.proofs.NodeSetLemmas.{listed_had, set_listed}
 use Rattle.pgraph.specs.View.{node_of}
-use Rattle.flow_rules.specs.Relaxed.{stays, units, rows, fixed_cost}
-use Rattle.flow_rules.specs.Net.{trillion}
-use Rattle.flow_rules.specs.Program.{IsProgram}
-use Rattle.integer_laws.specs.Total.{total}
+use Rattle.pgraph.specs.flow_rules.Relaxed.{stays, units, rows, fixed_cost}
+use Rattle.pgraph.specs.flow_rules.Net.{trillion}
+use Rattle.pgraph.specs.flow_rules.Program.{IsProgram}
+use Rattle.exact_numbers.specs.integer_laws.Total.{total}
 use Rattle.flow_program.specs.NodeSets.{AreNeeded}
 use Rattle.flow_program.proofs.ProgramLemmas.{same_program, program_is}
 use Rattle.flow_program.proofs.program.Program.of.Goals as goal

@@ -1,7 +1,7 @@
 use Rattle.std.proofs.Common.{◌≡◌, ◌∙◌, sym, ap, true, ℕ, Bool, List}
-use Rattle.pns_rules.specs.Shape.{Shape, shape_of}
-use Rattle.number_sets.specs.Sets.{has}
-use Rattle.report_rules.specs.Drawn.{is_taken}
+use Rattle.report_amounts.specs.pns_rules.Shape.{Shape, shape_of}
+use Rattle.report_amounts.specs.number_sets.Sets.{has}
+use Rattle.report_amounts.specs.report_rules.Drawn.{is_taken}
 use Rattle.graph_text.proofs.Tests.{test_true, test_false}
 use Rattle.graph_text.proofs.picture.Picture.counting.Goals as goal
 

@@ -1,7 +1,7 @@
 use Rattle.std.proofs.Common.{◌<◌, ◌∙◌, sym, ap, subst, length, ℕ}
 use Rattle.std.specs.Prelude.{nat_lt}
-use Rattle.pns_rules.specs.Shape.{Shape, shape_of}
-use Rattle.report_rules.specs.Drawn.{counts}
+use Rattle.report_amounts.specs.pns_rules.Shape.{Shape, shape_of}
+use Rattle.report_amounts.specs.report_rules.Drawn.{counts}
 use Rattle.graph_text.specs.Kept.{picture_of}
 use Rattle.graph_text.proofs.Users.{users_are}
 use Rattle.graph_text.proofs.picture.Picture.is_spread.Goals as goal

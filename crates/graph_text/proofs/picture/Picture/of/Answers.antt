@@ -1,8 +1,8 @@
 use Rattle.std.proofs.Common.{◌≡◌, ◌<◌, ◌∙◌, sym, ap, subst, length}
 use Rattle.std.specs.Prelude.{IfSome}
-use Rattle.problem_rules.specs.Problem.{Problem}
-use Rattle.pns_rules.specs.Shape.{shape_of}
-use Rattle.tree_rules.specs.Claim.{IsFeasible}
+use Rattle.report_amounts.specs.problem_rules.Problem.{Problem}
+use Rattle.report_amounts.specs.pns_rules.Shape.{shape_of}
+use Rattle.report_amounts.specs.tree_rules.Claim.{IsFeasible}
 use Rattle.graph_text.proofs.Lines.{some_map}
 use Rattle.graph_text.proofs.picture.Picture.of.Goals as goal
 

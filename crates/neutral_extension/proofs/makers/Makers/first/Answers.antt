@@ -1,5 +1,5 @@
 use Rattle.std.proofs.Common.{◌≡◌, ◌<◌, ℕ, not, List, length, take, sym, ap, ◌∙◌, subst}
-use Rattle.number_sets.specs.Sets.{has, first, kept}
+use Rattle.pgraph.specs.number_sets.Sets.{has, first, kept}
 use Rattle.link_lists.specs.Lists.{Rows, row, pushed, unlinked, relinked, with_pushed, opened}
 use Rattle.link_lists.specs.Lists.{IsListed, IsTop, IsFree}
 use Rattle.neutral_extension.specs.Cells.{makers_of}

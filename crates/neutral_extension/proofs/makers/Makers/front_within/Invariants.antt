@@ -1,6 +1,6 @@
 use Rattle.std.proofs.Common.{◌≡◌, ◌≤◌, ◌+◌, ◌-◌, length, drop}
 use Rattle.std.specs.List.{prefix_len}
-use Rattle.number_sets.specs.Sets.{has}
+use Rattle.pgraph.specs.number_sets.Sets.{has}
 use Rattle.neutral_extension.proofs.makers.Makers.front_within.Given as goal
 
 abbrev pub invariant-front : goal.invariant-front

@@ -1,5 +1,5 @@
 use Rattle.std.proofs.Common.{◌≡◌, ◌<◌, ℕ, not, List, length, take, sym, ap, ◌∙◌, subst}
-use Rattle.number_sets.specs.Sets.{has, kept}
+use Rattle.pgraph.specs.number_sets.Sets.{has, kept}
 use Rattle.link_lists.specs.Lists.{row}
 use Rattle.link_lists.specs.Lists as cells
 use Rattle.neutral_extension.specs.Candidates.{Candidates, makers_at, left}

@@ -1,8 +1,8 @@
 use Rattle.std.proofs.Common.{◌≡◌, ◌≤◌, ℕ, not, List, ◌++◌, length, sym, ap, ◌∙◌, subst}
 use Rattle.std.proofs.lemmas.List.Sums.{prefix_len-le-length}
 use Rattle.std.proofs.lemmas.Bool.{and_parts, not-true}
-use Rattle.number_sets.specs.Sets.{has}
-use Rattle.number_sets.proofs.SetLemmas.{has-minus}
+use Rattle.pgraph.specs.number_sets.Sets.{has}
+use Rattle.pgraph.proofs.number_sets.Cited.{has-minus}
 use Rattle.neutral_extension.specs.Candidates.{Candidates, led}
 use Rattle.neutral_extension.proofs.LeadLemmas.{led_by, led_has}
 use Rattle.neutral_extension.proofs.makers.Makers.lead_to.Goals as goal

@@ -1,6 +1,6 @@
 use Rattle.std.proofs.Common.{◌≡◌, ◌<◌, ℕ, Bool, true, false, List, [], ◌∷◌, ◌++◌, ◌+◌, length}
 use Rattle.std.proofs.Common.{take, slice_set, sym, ap, ap₂, ◌∙◌, subst, arith}
-use Rattle.number_sets.specs.Sets.{has}
+use Rattle.pgraph.specs.number_sets.Sets.{has}
 use Rattle.link_lists.specs.Lists.{IsListed}
 use Rattle.pgraph.specs.Tables.{shape}
 use Rattle.neutral_extension.specs.Candidates.{Candidates}

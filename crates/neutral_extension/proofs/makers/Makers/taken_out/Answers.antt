@@ -1,6 +1,6 @@
 use Rattle.std.proofs.Common.{ap, ◌∙◌, arith}
 use Rattle.std.proofs.lemmas.List.{get_or_read}
-use Rattle.number_sets.specs.Sets.{has}
+use Rattle.pgraph.specs.number_sets.Sets.{has}
 use Rattle.neutral_extension.specs.Candidates.{Candidates}
 use Rattle.neutral_extension.proofs.LeadLemmas.{read_more, read_below}
 use Rattle.neutral_extension.proofs.makers.Makers.taken_out.Goals as goal

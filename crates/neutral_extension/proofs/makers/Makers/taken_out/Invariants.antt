@@ -1,5 +1,5 @@
 use Rattle.std.proofs.Common.{◌≡◌, ℕ, take}
-use Rattle.number_sets.specs.Sets.{has}
+use Rattle.pgraph.specs.number_sets.Sets.{has}
 use Rattle.neutral_extension.proofs.makers.Makers.taken_out.Given as goal
 
 abbrev pub invariant-units : goal.invariant-units

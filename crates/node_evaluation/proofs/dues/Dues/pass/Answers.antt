@@ -1,5 +1,5 @@
 use Rattle.std.proofs.Common.{subst}
-use Rattle.number_sets.specs.Sets.{IsSet}
+use Rattle.structure_list.specs.number_sets.Sets.{IsSet}
 use Rattle.node_evaluation.proofs.dues.Dues.pass.Goals as goal
 
 pub bounds-self-u : goal.bounds-self-u

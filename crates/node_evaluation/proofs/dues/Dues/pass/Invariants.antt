@@ -1,4 +1,4 @@
-use Rattle.number_sets.specs.Sets.{IsSet}
+use Rattle.structure_list.specs.number_sets.Sets.{IsSet}
 use Rattle.node_evaluation.proofs.dues.Dues.pass.Given as goal
 
 abbrev pub invariant-loop-u : goal.invariant-loop-u

@@ -1,7 +1,7 @@
 use Rattle.std.proofs.Common.{◌≡◌, ◌<◌, ◌≤◌, ◌+◌, ◌++◌, ℕ, List, [], ◌∷◌, map, length, take, get_or}
 use Rattle.std.proofs.Common.{sym, ap, ◌∙◌, rules}
 use Rattle.std.proofs.lemmas.List.{map-append, take_more, take_all}
-use Rattle.problem_rules.specs.Problem.{Material}
+use Rattle.plan_laws.specs.problem_rules.Problem.{Material}
 use Rattle.periods.proofs.plan.Period.of.Goals as goal
 
 -- one number more

@@ -1,5 +1,5 @@
 use Rattle.std.proofs.Common.{◌≡◌, map, take}
-use Rattle.problem_rules.specs.Problem.{Material}
+use Rattle.plan_laws.specs.problem_rules.Problem.{Material}
 use Rattle.periods.proofs.plan.Period.of.Given as goal
 
 abbrev pub invariant-copying : goal.invariant-copying

@@ -1,5 +1,5 @@
 use Rattle.std.proofs.Common.{◌∷◌, [], ◌++◌, refl, ap, sym, ◌∙◌, ◌≡◌, length, arith}
-use Rattle.plan_rules.specs.Plan.{Period, is_too_wide}
+use Rattle.plan_laws.specs.plan_rules.Plan.{Period, is_too_wide}
 use Rattle.periods.proofs.Taken.{begins_none, begins_period}
 use Rattle.periods.proofs.reading.Reading.begin.Goals as goal
 

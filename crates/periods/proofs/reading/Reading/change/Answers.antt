@@ -1,7 +1,7 @@
 use Rattle.std.proofs.Common.{◌≡◌, ◌-◌, false, arith, length, ap, sym, ◌∙◌}
-use Rattle.plan_rules.specs.Meaning.{changed}
-use Rattle.plan_rules.specs.Plan.{Period}
-use Rattle.plan_rules.specs.Read.{is_double}
+use Rattle.plan_laws.specs.plan_rules.Meaning.{changed}
+use Rattle.plan_laws.specs.plan_rules.Plan.{Period}
+use Rattle.plan_laws.specs.plan_rules.Read.{is_double}
 use Rattle.periods.specs.View.{changes}
 use Rattle.periods.specs.Reading.{seen_of}
 use Rattle.periods.proofs.Taken.{no_begin, is_once, changes_well, changes_badly}

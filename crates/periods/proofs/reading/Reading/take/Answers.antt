@@ -1,6 +1,6 @@
 use Rattle.std.proofs.Common.{◌≡◌, Result, Ok, sym, subst}
-use Rattle.plan_rules.specs.declared.PlanKind.{PlanKind}
-use Rattle.plan_rules.specs.Line.{Entry, begins, line_read}
+use Rattle.plan_laws.specs.plan_rules.declared.PlanKind.{PlanKind}
+use Rattle.plan_laws.specs.plan_rules.Line.{Entry, begins, line_read}
 use Rattle.periods.specs.Reading.{HasTaken}
 use Rattle.periods.proofs.Taken.{says_begin}
 use Rattle.periods.proofs.reading.Reading.take.Goals.{in-Ok+in-Begins-1}

@@ -1,6 +1,6 @@
 use Rattle.std.proofs.Common.{◌≡◌, ◌∙◌, ◌<◌, ◌==◌, ◌&&◌, ◌||◌, sym, ap, subst, length, pos, get_or}
 use Rattle.std.proofs.lemmas.List.{get_or_default}
-use Rattle.problem_rules.specs.Problem.{Term}
+use Rattle.flow_rules.specs.problem_rules.Problem.{Term}
 use Rattle.pgraph.specs.Arcs.{joins}
 use Rattle.pgraph.proofs.ArcLemmas.{joined_more, terms_have-get}
 use Rattle.pgraph.proofs.arcs.Arcs.join_all.Goals as goal

@@ -1,5 +1,5 @@
 use Rattle.std.proofs.Common.{◌≡◌, ◌==◌, ◌&&◌, ◌||◌, ℕ, length, take}
-use Rattle.problem_rules.specs.Problem.{terms_have}
+use Rattle.flow_rules.specs.problem_rules.Problem.{terms_have}
 use Rattle.pgraph.specs.Arcs.{joins}
 use Rattle.pgraph.proofs.arcs.Arcs.join_all.Given as goal
 

@@ -2,7 +2,7 @@ use Rattle.std.proofs.Common.{◌≡◌, ◌<◌, ◌∙◌, Bool, true, false, 
 use Rattle.std.proofs.Common.{[]}
 use Rattle.std.proofs.lemmas.Bool.{both_ways}
 use Rattle.std.proofs.lemmas.List.{get_or_read}
-use Rattle.number_sets.specs.Sets.{has, meet}
+use Rattle.flow_rules.specs.number_sets.Sets.{has, meet}
 use Rattle.pgraph.specs.Arcs.{Arcs, joins_some, units_at}
 use Rattle.pgraph.proofs.ArcLemmas.{meets_none, meets_some}
 use Rattle.pgraph.proofs.arcs.Arcs.joins_some.Goals as goal

@@ -1,5 +1,5 @@
 use Rattle.std.proofs.Common.{sym, subst, ℕ, List}
-use Rattle.number_sets.specs.Sets.{has}
+use Rattle.flow_rules.specs.number_sets.Sets.{has}
 use Rattle.pgraph.proofs.ArcLemmas.{IsGathered, gathered_more, gathered_all, head_in_set}
 use Rattle.pgraph.proofs.arcs.Arcs.materials_of.Goals as goal
 

@@ -1,4 +1,4 @@
-use Rattle.number_sets.specs.Sets.{has}
+use Rattle.flow_rules.specs.number_sets.Sets.{has}
 use Rattle.pgraph.proofs.ArcLemmas.{IsGathered}
 use Rattle.pgraph.proofs.arcs.Arcs.materials_of.Given as goal
 

@@ -1,6 +1,6 @@
 use Rattle.std.proofs.Common.{◌∙◌, ◌<◌, sym, ap, subst}
 use Rattle.std.proofs.lemmas.List.{get_or_default}
-use Rattle.problem_rules.specs.Problem.{terms_have, no_unit}
+use Rattle.flow_rules.specs.problem_rules.Problem.{terms_have, no_unit}
 use Rattle.pgraph.specs.Arcs.{joins}
 use Rattle.pgraph.specs.Building.{terms_on}
 use Rattle.pgraph.proofs.ArcLemmas.{unit_more}

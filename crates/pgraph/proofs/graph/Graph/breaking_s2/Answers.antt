@@ -1,5 +1,5 @@
 use Rattle.std.proofs.Common.{◌∙◌, ap, ap₂}
-use Rattle.number_sets.specs.Sets.{union, minus}
+use Rattle.flow_rules.specs.number_sets.Sets.{union, minus}
 use Rattle.pgraph.specs.Tables.{shape}
 use Rattle.pgraph.proofs.AxiomLemmas.{breaks_s2_is}
 use Rattle.pgraph.proofs.graph.Graph.breaking_s2.Goals as goal

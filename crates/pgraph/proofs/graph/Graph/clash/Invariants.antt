@@ -1,6 +1,6 @@
 use Rattle.std.proofs.Common.{◌<◌, ℕ}
-use Rattle.number_sets.specs.Sets.{has}
-use Rattle.pns_rules.specs.Structure.{Clashes}
+use Rattle.flow_rules.specs.number_sets.Sets.{has}
+use Rattle.flow_rules.specs.pns_rules.Structure.{Clashes}
 use Rattle.pgraph.specs.Tables.{shape}
 use Rattle.pgraph.proofs.graph.Graph.clash.Given as goal
 

@@ -1,8 +1,8 @@
 use Rattle.std.proofs.Common.{◌∙◌, sym, ap, refl}
-use Rattle.number_sets.specs.Sets.{has}
-use Rattle.pns_rules.specs.Breaks.{BreaksS1, BreaksS2, BreaksS4}
+use Rattle.flow_rules.specs.number_sets.Sets.{has}
+use Rattle.flow_rules.specs.pns_rules.Breaks.{BreaksS1, BreaksS2, BreaksS4}
 use Rattle.pgraph.specs.Tables.{shape}
-use Rattle.number_sets.proofs.OptionLemmas.{first_none}
+use Rattle.flow_rules.proofs.number_sets.Cited.{first_none}
 use Rattle.pgraph.proofs.PathLemmas.{first_is, first_never}
 use Rattle.pgraph.proofs.AxiomLemmas.{meets_all, s1_refutes, s2_refutes, s4_refutes}
 use Rattle.pgraph.proofs.graph.Graph.judge.Goals as goal

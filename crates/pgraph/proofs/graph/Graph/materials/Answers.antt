@@ -1,6 +1,6 @@
 use Rattle.std.proofs.Common.{◌∙◌, ◌||◌, ap, ap₂, Bool}
-use Rattle.number_sets.specs.Sets.{has}
-use Rattle.number_sets.proofs.SetLemmas.{has-union}
+use Rattle.flow_rules.specs.number_sets.Sets.{has}
+use Rattle.flow_rules.proofs.number_sets.Cited.{has-union}
 use Rattle.pgraph.proofs.graph.Graph.materials.Goals as goal
 
 pub returns : goal.returns

@@ -1,6 +1,6 @@
 use Rattle.std.proofs.Common.{◌∙◌, ◌||◌, ◌&&◌, not, ap, ap₂, Bool}
-use Rattle.number_sets.specs.Sets.{has}
-use Rattle.number_sets.proofs.SetLemmas.{has-union, has-minus}
+use Rattle.flow_rules.specs.number_sets.Sets.{has}
+use Rattle.flow_rules.proofs.number_sets.Cited.{has-union, has-minus}
 use Rattle.pgraph.proofs.ArcLemmas.{and_swap}
 use Rattle.pgraph.proofs.graph.Graph.needed.Goals as goal
 

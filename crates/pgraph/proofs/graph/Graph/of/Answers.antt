@@ -1,6 +1,6 @@
 use Rattle.std.proofs.Common.{◌∙◌, ◌<◌, ap, sym, subst, length, arith, List}
-use Rattle.problem_rules.specs.Problem.{Material, Exclusion}
-use Rattle.number_sets.specs.Sets.{has}
+use Rattle.flow_rules.specs.problem_rules.Problem.{Material, Exclusion}
+use Rattle.flow_rules.specs.number_sets.Sets.{has}
 use Rattle.pgraph.specs.declared.arcs.Side.TheVariants.{Inputs, Outputs}
 use Rattle.pgraph.specs.Building.{has_term, units_excluded}
 use Rattle.pgraph.specs.Tables.{shape}

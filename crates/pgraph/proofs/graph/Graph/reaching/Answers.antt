@@ -1,6 +1,6 @@
 use Rattle.std.proofs.Common.{◌≡◌, ◌∙◌, sym, ap, subst, length, List, [], ℕ, suc, arith}
-use Rattle.number_sets.specs.Sets.{has, first, minus, union}
-use Rattle.number_sets.proofs.SetLemmas.{length-with_number, length_below}
+use Rattle.flow_rules.specs.number_sets.Sets.{has, first, minus, union}
+use Rattle.flow_rules.proofs.number_sets.Cited.{length-with_number, length_below}
 use Rattle.pgraph.specs.Tables.{shape}
 use Rattle.pgraph.proofs.PathLemmas.{IsGrowing, growing_start, growing_more, taken_wanted}
 use Rattle.pgraph.proofs.PathLemmas.{taken_fresh, fresh_makes, all_found}

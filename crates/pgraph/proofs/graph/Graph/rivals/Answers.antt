@@ -1,5 +1,5 @@
 use Rattle.std.proofs.Common.{◌≡◌, sym, true, subst, ◌↔◌, ℕ, List}
-use Rattle.number_sets.specs.Sets.{has}
+use Rattle.flow_rules.specs.number_sets.Sets.{has}
 use Rattle.pgraph.specs.Rivals.{IsRival}
 use Rattle.pgraph.specs.Tables.{shape}
 use Rattle.pgraph.proofs.ExclusionLemmas.{rival_is}

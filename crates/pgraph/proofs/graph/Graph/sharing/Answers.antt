@@ -1,4 +1,4 @@
-use Rattle.number_sets.specs.Sets.{has}
+use Rattle.flow_rules.specs.number_sets.Sets.{has}
 use Rattle.pgraph.specs.Tables.{shape}
 use Rattle.pgraph.proofs.ExclusionLemmas.{shares_more}
 use Rattle.pgraph.proofs.graph.Graph.sharing.Goals as goal

@@ -1,6 +1,6 @@
 use Rattle.std.proofs.Common.{◌∙◌, ◌&&◌, ap, refl, ℕ}
-use Rattle.number_sets.specs.Sets.{has, any_below}
-use Rattle.pns_rules.specs.Structure.{is_used}
+use Rattle.flow_rules.specs.number_sets.Sets.{has, any_below}
+use Rattle.flow_rules.specs.pns_rules.Structure.{is_used}
 use Rattle.pgraph.specs.Arcs.{joins}
 use Rattle.pgraph.specs.Tables.{Tables, shape}
 use Rattle.pgraph.proofs.graph.Graph.used.Goals as goal

@@ -1,5 +1,5 @@
 use Rattle.std.proofs.Common.{◌++◌, [], ◌∷◌, map, ap, ◌∙◌, string_bytes}
-use Rattle.problem_rules.specs.Names.{is_among}
+use Rattle.text_rules.specs.problem_rules.Names.{is_among}
 use Rattle.pns_problem.proofs.NameLemmas.{names-insert_key}
 use Rattle.pns_problem.proofs.name_table.NameTable.add.Goals as goal
 

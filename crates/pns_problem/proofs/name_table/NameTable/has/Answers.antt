@@ -1,5 +1,5 @@
 use Rattle.std.proofs.Common.{ap, ◌∙◌}
-use Rattle.problem_rules.specs.Names.{is_among}
+use Rattle.text_rules.specs.problem_rules.Names.{is_among}
 use Rattle.pns_problem.proofs.NameLemmas.{has_listed}
 use Rattle.pns_problem.proofs.name_table.NameTable.has.Goals as goal
 

@@ -1,7 +1,7 @@
 use Rattle.std.proofs.Common.{subst}
-use Rattle.problem_rules.specs.Problem.{Problem}
-use Rattle.problem_rules.specs.Validity.{IsValid}
-use Rattle.problem_rules.proofs.ValidLemmas.{well_formed_from_valid}
+use Rattle.text_rules.specs.problem_rules.Problem.{Problem}
+use Rattle.text_rules.specs.problem_rules.Validity.{IsValid}
+use Rattle.text_rules.proofs.problem_rules.Cited.{well_formed_from_valid}
 use Rattle.pns_problem.proofs.problem.Problem.is_valid.Goals as goal
 
 pub returns-clause-well_formed : goal.returns-clause-well_formed

@@ -1,6 +1,6 @@
 use Rattle.std.proofs.Common.{◌≡◌, ℤ, SFits, rules, w64, ap, ◌∙◌, refl}
 use Rattle.std.proofs.lemmas.Int.{to_z-of_z}
-use Rattle.problem_rules.specs.Problem.{OperatingUnit}
+use Rattle.text_rules.specs.problem_rules.Problem.{OperatingUnit}
 use Rattle.pns_problem.proofs.SettingLemmas.{with_unit, unit_set}
 use Rattle.pns_problem.proofs.problem.Problem.set_fix.Goals as goal
 

@@ -1,5 +1,5 @@
 use Rattle.std.proofs.Common.{sym, subst}
-use Rattle.text_rules.specs.Line.{Placed}
+use Rattle.text_lines.specs.text_rules.Line.{Placed}
 use Rattle.pns_text.specs.View.{placed_view, walk_view}
 use Rattle.pns_text.specs.Walk.{IsPast}
 use Rattle.pns_text.proofs.Reading.{on_ok, read_past}

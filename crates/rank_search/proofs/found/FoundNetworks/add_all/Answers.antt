@@ -3,7 +3,7 @@ use Rattle.std.proofs.Common.{◌≡◌, ◌++◌, ◌∷◌, [], List, Option, 
 use Rattle.std.proofs.Common.{◌∙◌, append_assoc, append-nil, length-append, arith}
 use Rattle.std.proofs.Math.Seq.{take-append_seam}
 use Rattle.std.specs.Vec.Iter.{into_iter_items}
-use Rattle.tree_rules.specs.Claim.{Network}
+use Rattle.rank_check.specs.tree_rules.Claim.{Network}
 use Rattle.rank_search.specs.Listed.{Listed, AreAdded, IsFrontAdded, IsSomeAdded}
 use Rattle.rank_search.proofs.PlaceLemmas.{added_last}
 use Rattle.rank_search.proofs.found.FoundNetworks.add_all.Goals as goal

@@ -1,6 +1,6 @@
 use Rattle.std.proofs.Common.{◌≡◌, ◌-◌, ◌≤◌, List, length, Some, sym, ap, ◌∙◌, subst, arith}
 use Rattle.std.specs.List.{slice_get}
-use Rattle.rank_rules.specs.Networks.{cost_of}
+use Rattle.rank_check.specs.rank_rules.Networks.{cost_of}
 use Rattle.rank_search.specs.Found.{FoundAt}
 use Rattle.rank_search.specs.Listed.{Listed, IsListed}
 use Rattle.rank_search.proofs.CostLemmas.{last_undercut}

@@ -1,7 +1,7 @@
 use Rattle.std.proofs.Common.{◌≡◌, ◌∷◌, [], List, Option, length, refl, sym, ap, subst}
 use Rattle.std.proofs.Common.{◌∙◌, append_assoc, append-nil, length-append, arith, rules}
 use Rattle.std.specs.Vec.Iter.{into_iter_items}
-use Rattle.tree_rules.specs.Claim.{Network}
+use Rattle.rank_check.specs.tree_rules.Claim.{Network}
 use Rattle.rank_search.specs.Plants.{AreAdded}
 use Rattle.rank_search.proofs.PlantLemmas.{added_last, added_nothing}
 use Rattle.rank_search.proofs.plants.Plants.add_all.Goals as goal

@@ -1,6 +1,6 @@
 use Rattle.std.proofs.Common.{◌∷◌, [], Option, Some, sym, subst}
 use Rattle.std.proofs.lemmas.Result.{on_ok_weaker}
-use Rattle.tree_rules.specs.Claim.{Network}
+use Rattle.rank_check.specs.tree_rules.Claim.{Network}
 use Rattle.rank_search.specs.Plants.{IsAdded, AreAdded}
 use Rattle.rank_search.proofs.PlantLemmas.{added_none, added_one}
 use Rattle.rank_search.proofs.plants.Plants.add_some.Goals as goal

@@ -1,6 +1,6 @@
 use Rattle.std.proofs.Common.{◌≡◌, ◌-◌, List, Some, ap, ◌∙◌, subst, arith}
 use Rattle.std.specs.List.{slice_get}
-use Rattle.rank_rules.specs.Networks.{cost_of}
+use Rattle.rank_check.specs.rank_rules.Networks.{cost_of}
 use Rattle.rank_search.specs.Found.{FoundAt}
 use Rattle.rank_search.proofs.NameLemmas.{item_there}
 use Rattle.rank_search.proofs.DistinctNameLemmas.{numbered_some}

@@ -5,16 +5,16 @@ use Rattle.std.specs.Prelude.{nat_lt, int_div}
 use Rattle.std.specs.Int.{w64, w128}
 use Rattle.std.proofs.lemmas.Int.{to_z-of_z}
 use Rattle.std.proofs.lemmas.Bool.{lt-ltb}
-use Rattle.number_sets.specs.Sets.{has, listed}
-use Rattle.number_sets.proofs.SetLemmas.{has-listed}
-use Rattle.pns_rules.specs.Shape.{Shape, shape_of}
-use Rattle.pns_rules.specs.Structure.{mats}
-use Rattle.pns_rules.specs.Nodes as rules_of
-use Rattle.pgraph.specs.Tables.{shape}
-use Rattle.flow_rules.specs.Net.{net_of}
-use Rattle.flow_rules.specs.Relaxed.{stays, row_low, row_high, unit_low, unit_cost}
+use Rattle.tree_rules.specs.number_sets.Sets.{has, listed}
+use Rattle.tree_rules.proofs.number_sets.Cited.{has-listed}
+use Rattle.tree_rules.specs.pns_rules.Shape.{Shape, shape_of}
+use Rattle.tree_rules.specs.pns_rules.Structure.{mats}
+use Rattle.tree_rules.specs.pns_rules.Nodes as rules_of
+use Rattle.flow_program.specs.pgraph.Tables.{shape}
+use Rattle.tree_rules.specs.flow_rules.Net.{net_of}
+use Rattle.tree_rules.specs.flow_rules.Relaxed.{stays, row_low, row_high, unit_low, unit_cost}
 use Rattle.flow_program.specs.NodeSets.{AreNeeded}
-use Rattle.flow_program.proofs.NodeSetLemmas.{listed_had}
+use Rattle.flow_program.proofs.Cited.{listed_had}
 use Rattle.scaled_flows.specs.Found.{DividesRow}
 use Rattle.scaled_flows.proofs.FoundLemmas.{through}
 use Rattle.scaled_flows.proofs.DivisorLemmas.{divisors_from}

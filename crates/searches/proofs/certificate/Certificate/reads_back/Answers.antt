@@ -1,7 +1,7 @@
 use Rattle.std.proofs.Common.{subst}
-use Rattle.tree_rules.specs.Tree.{IsTree}
-use Rattle.tree_text_rules.specs.Read.{Certificate}
-use Rattle.tree_text_laws.specs.Fits.{KeepsClaim, CountsTail}
+use Rattle.tree_text.specs.tree_rules.Tree.{IsTree}
+use Rattle.tree_text.specs.tree_text_rules.Read.{Certificate}
+use Rattle.headed_search.specs.tree_text_laws.Fits.{KeepsClaim, CountsTail}
 use Rattle.searches.proofs.Counted.{tree_counted}
 use Rattle.searches.proofs.certificate.Certificate.reads_back.Goals as goal
 

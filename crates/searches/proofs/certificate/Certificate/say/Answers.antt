@@ -1,11 +1,11 @@
 use Rattle.std.proofs.Common.{◌∙◌, List, ap, subst, refl}
-use Rattle.tree_text_rules.specs.Read.{Certificate}
-use Rattle.tree_text_rules.specs.Line.{Token}
-use Rattle.tree_text_rules.specs.Spelling.{tree_text_lines}
+use Rattle.tree_text.specs.tree_text_rules.Read.{Certificate}
+use Rattle.tree_text.specs.tree_text_rules.Line.{Token}
+use Rattle.tree_text.specs.tree_text_rules.Spelling.{tree_text_lines}
 use Rattle.tree_text.specs.Prints.{Prints}
-use Rattle.studio_rules.specs.Printed.{OneAnswer}
-use Rattle.command_files.proofs.Ending.{Tells-map, Ends-from}
-use Rattle.studio_rules.specs.Solve.{status_of}
+use Rattle.command_files.specs.studio_rules.Printed.{OneAnswer}
+use Rattle.command_files.proofs.Cited.{Tells-map, Ends-from}
+use Rattle.command_files.specs.studio_rules.Solve.{status_of}
 use Rattle.searches.specs.Found.{CertificateSays}
 use Rattle.searches.proofs.FoundTexts.{says, is_printing}
 use Rattle.searches.proofs.certificate.Certificate.say.Goals as goal

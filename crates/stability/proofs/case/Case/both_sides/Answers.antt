@@ -1,8 +1,8 @@
 use Rattle.std.proofs.Common.{◌≡◌, sym, subst, rules, ℤ, SFits, to_z, of_z}
 use Rattle.std.specs.Int.{w64}
 use Rattle.std.proofs.lemmas.Int.{to_z-of_z}
-use Rattle.report_rules.specs.declared.side.Side.TheVariants.{Below, Above}
-use Rattle.report_rules.specs.Range.{IsRange}
+use Rattle.stability_laws.specs.report_rules.declared.side.Side.TheVariants.{Below, Above}
+use Rattle.stability_laws.specs.report_rules.Range.{IsRange}
 use Rattle.stability.specs.Side.{there}
 use Rattle.stability.proofs.RangeLemmas.{range_from}
 use Rattle.stability.proofs.case.Case.both_sides.Goals as goal

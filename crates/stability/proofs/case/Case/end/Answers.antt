@@ -1,5 +1,5 @@
 use Rattle.stability.specs.declared.side.Beyond.TheVariants.{Cheaper, Wanting}
-use Rattle.report_rules.specs.Spot.{value_at}
+use Rattle.stability_laws.specs.report_rules.Spot.{value_at}
 use Rattle.stability.proofs.SideLemmas.{step_allowed}
 use Rattle.stability.proofs.RangeLemmas.{end_here, end_far, first_bracket}
 use Rattle.stability.proofs.case.Case.end.Goals as goal

@@ -2,7 +2,7 @@ use Rattle.std.proofs.Common.{◌≡◌, ℤ, ◌+ℤ◌, ◌*ℤ◌, ◌∙◌,
 use Rattle.std.specs.Prelude.{IfSome}
 use Rattle.std.specs.Int.{w128}
 use Rattle.std.proofs.lemmas.Int.{to_z-of_z}
-use Rattle.report_rules.specs.Rise.{least_rise}
+use Rattle.stability_laws.specs.report_rules.Rise.{least_rise}
 use Rattle.stability.specs.Case.{Case}
 use Rattle.stability.proofs.RiseLemmas.{some_is}
 use Rattle.stability.proofs.case.Case.least_cost.Goals as goal

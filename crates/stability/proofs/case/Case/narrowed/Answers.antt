@@ -1,5 +1,5 @@
 use Rattle.std.proofs.Common.{arith}
-use Rattle.report_rules.specs.Spot.{value_at}
+use Rattle.stability_laws.specs.report_rules.Spot.{value_at}
 use Rattle.stability.proofs.SideLemmas.{nearer_allowed}
 use Rattle.stability.proofs.case.Case.narrowed.Goals as goal
 

@@ -2,7 +2,7 @@ use Rattle.std.proofs.Common.{◌≡◌, subst, rules, ℤ, SFits, to_z, of_z}
 use Rattle.std.specs.Prelude.{IfOk}
 use Rattle.std.specs.Int.{w64}
 use Rattle.std.proofs.lemmas.Int.{to_z-of_z}
-use Rattle.report_rules.specs.Spot.{value_at, value_on}
+use Rattle.stability_laws.specs.report_rules.Spot.{value_at, value_on}
 use Rattle.stability.specs.Refusal.{IsProbed}
 use Rattle.stability.proofs.case.Case.probe_at.Goals as goal
 

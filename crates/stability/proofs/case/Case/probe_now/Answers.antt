@@ -2,9 +2,9 @@ use Rattle.std.proofs.Common.{◌≡◌, sym, ap, ◌∙◌, subst, rules, ℤ, 
 use Rattle.std.specs.Prelude.{IfOk}
 use Rattle.std.specs.Int.{w64}
 use Rattle.std.proofs.lemmas.Int.{to_z-of_z}
-use Rattle.problem_rules.specs.Problem.{Problem}
-use Rattle.tree_rules.specs.Claim.{Network, IsFeasible}
-use Rattle.report_rules.specs.Spot.{value_at, valued}
+use Rattle.stability_laws.specs.problem_rules.Problem.{Problem}
+use Rattle.stability_laws.specs.tree_rules.Claim.{Network, IsFeasible}
+use Rattle.stability_laws.specs.report_rules.Spot.{value_at, valued}
 use Rattle.stability.specs.Refusal.{IsProbed}
 use Rattle.stability.proofs.case.Case.probe_now.Goals as goal
 

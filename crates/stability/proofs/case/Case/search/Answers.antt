@@ -2,11 +2,11 @@ use Rattle.std.proofs.Common.{◌≡◌, ◌≤ℤ◌, ◌<ℤ◌, ◌*ℤ◌, r
 use Rattle.std.proofs.Common.{SFits}
 use Rattle.std.specs.Int.{w128}
 use Rattle.std.proofs.lemmas.Int.{to_z-of_z}
-use Rattle.problem_rules.specs.Problem.{Problem}
-use Rattle.problem_rules.specs.Validity.{IsValid}
-use Rattle.tree_rules.specs.Claim.{Network, CostOver}
-use Rattle.report_rules.specs.Spot.{valued}
-use Rattle.report_rules.specs.Range.{cost_at, IsLeast, IsCheaper}
+use Rattle.stability_laws.specs.problem_rules.Problem.{Problem}
+use Rattle.stability_laws.specs.problem_rules.Validity.{IsValid}
+use Rattle.stability_laws.specs.tree_rules.Claim.{Network, CostOver}
+use Rattle.stability_laws.specs.report_rules.Spot.{valued}
+use Rattle.stability_laws.specs.report_rules.Range.{cost_at, IsLeast, IsCheaper}
 use Rattle.stability.proofs.ProbeLemmas.{cheaper_found, best_found}
 use Rattle.stability.proofs.case.Case.search.Goals as goal
 

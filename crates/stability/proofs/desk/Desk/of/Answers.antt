@@ -1,9 +1,9 @@
 use Rattle.std.proofs.Common.{◌≡◌, sym, ap, ◌∙◌, subst}
-use Rattle.problem_rules.specs.Problem.{Problem}
-use Rattle.pns_rules.specs.Shape.{Shape, shape_of}
-use Rattle.pgraph.specs.Tables.{shape}
-use Rattle.neutral_extension.specs.Candidates.{AreMakersOf}
-use Rattle.report_rules.specs.Spot.{value_at}
+use Rattle.stability_laws.specs.problem_rules.Problem.{Problem}
+use Rattle.stability_laws.specs.pns_rules.Shape.{Shape, shape_of}
+use Rattle.solver.specs.pgraph.Tables.{shape}
+use Rattle.solver.specs.neutral_extension.Candidates.{AreMakersOf}
+use Rattle.stability_laws.specs.report_rules.Spot.{value_at}
 use Rattle.stability.specs.Case.{Case}
 use Rattle.stability.proofs.desk.Desk.of.Goals as goal
 

@@ -1,11 +1,11 @@
 use Rattle.std.proofs.Common.{◌≡◌, sym, ap, ◌∙◌, subst}
-use Rattle.problem_rules.specs.Problem.{Problem}
-use Rattle.pns_rules.specs.Shape.{Shape, shape_of}
-use Rattle.pgraph.specs.Tables.{shape}
-use Rattle.neutral_extension.specs.Candidates.{AreMakersOf}
-use Rattle.tree_rules.specs.Accepted.{first_node}
-use Rattle.tree_rules.specs.Claim.{IsFeasible}
-use Rattle.abb_search.specs.Found.{IsFound}
+use Rattle.stability_laws.specs.problem_rules.Problem.{Problem}
+use Rattle.stability_laws.specs.pns_rules.Shape.{Shape, shape_of}
+use Rattle.solver.specs.pgraph.Tables.{shape}
+use Rattle.solver.specs.neutral_extension.Candidates.{AreMakersOf}
+use Rattle.stability_laws.specs.tree_rules.Accepted.{first_node}
+use Rattle.stability_laws.specs.tree_rules.Claim.{IsFeasible}
+use Rattle.solver.specs.abb_search.Found.{IsFound}
 use Rattle.stability.specs.Desk.{Desk}
 use Rattle.stability.proofs.desk.Desk.search.Goals as goal
 

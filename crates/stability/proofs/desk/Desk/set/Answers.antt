@@ -1,11 +1,11 @@
 use Rattle.std.proofs.Common.{◌≡◌, sym, ap, ◌∙◌, subst, rules, SFits, to_z, of_z}
 use Rattle.std.specs.Int.{w64}
 use Rattle.std.proofs.lemmas.Int.{to_z-of_z}
-use Rattle.problem_rules.specs.Validity.{IsValid}
-use Rattle.pns_rules.specs.Shape.{shape_of}
-use Rattle.neutral_extension.specs.Candidates.{AreMakersOf}
-use Rattle.report_rules.specs.declared.spot.Spot.{Spot}
-use Rattle.report_rules.specs.Spot.{KnowsSpot, valued}
+use Rattle.stability_laws.specs.problem_rules.Validity.{IsValid}
+use Rattle.stability_laws.specs.pns_rules.Shape.{shape_of}
+use Rattle.solver.specs.neutral_extension.Candidates.{AreMakersOf}
+use Rattle.stability_laws.specs.report_rules.declared.spot.Spot.{Spot}
+use Rattle.stability_laws.specs.report_rules.Spot.{KnowsSpot, valued}
 use Rattle.stability.specs.Case.{Case}
 use Rattle.stability.specs.Desk.{Desk}
 use Rattle.stability.proofs.DeskLemmas.{set_again, set_knows, set_valid}

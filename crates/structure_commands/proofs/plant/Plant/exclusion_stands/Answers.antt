@@ -1,7 +1,7 @@
 use Rattle.std.proofs.Common.{◌∙◌, ap, sym}
-use Rattle.number_sets.specs.Sets.{has}
-use Rattle.problem_rules.specs.Problem.{exclusion_at}
-use Rattle.report_rules.specs.Warned.{is_alone, exclusion_stands}
+use Rattle.text_lines.specs.number_sets.Sets.{has}
+use Rattle.text_lines.specs.problem_rules.Problem.{exclusion_at}
+use Rattle.command_files.specs.report_rules.Warned.{is_alone, exclusion_stands}
 use Rattle.structure_commands.specs.Judged.{Judged}
 use Rattle.structure_commands.proofs.plant.Plant.exclusion_stands.Goals as goal
 

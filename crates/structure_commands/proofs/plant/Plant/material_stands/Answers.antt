@@ -1,8 +1,8 @@
 use Rattle.std.proofs.Common.{◌∙◌, ap, sym, not, ℕ, Bool}
-use Rattle.number_sets.specs.Sets.{has}
-use Rattle.pns_rules.specs.Shape.{shape_of}
-use Rattle.pns_rules.specs.Structure.{mats}
-use Rattle.report_rules.specs.Warned.{material_stands}
+use Rattle.text_lines.specs.number_sets.Sets.{has}
+use Rattle.cert_check.specs.pns_rules.Shape.{shape_of}
+use Rattle.cert_check.specs.pns_rules.Structure.{mats}
+use Rattle.command_files.specs.report_rules.Warned.{material_stands}
 use Rattle.structure_commands.specs.Judged.{Judged}
 use Rattle.structure_commands.proofs.plant.Plant.material_stands.Goals as goal
 

@@ -1,10 +1,11 @@
 use Rattle.std.proofs.Common.{ap, subst, sym, refl, ◌∙◌, ◌<◌, List, ℕ, arith}
-use Rattle.number_sets.specs.Sets.{with_number, minus}
-use Rattle.pns_rules.specs.Nodes.{free_makers}
+use Rattle.pgraph.specs.number_sets.Sets.{with_number, minus}
+use Rattle.pgraph.specs.pns_rules.Nodes.{free_makers}
 use Rattle.pgraph.specs.Tables.{shape}
 use Rattle.pgraph.specs.View.{node_of}
 use Rattle.structure_list.specs.Position.{IsPosition, undone_count}
-use Rattle.structure_list.proofs.PositionLemmas.{position_of, position_passed, known_below, fewer_undone}
+use Rattle.structure_list.proofs.PositionLemmas.{position_of, position_passed, known_below}
+use Rattle.structure_list.proofs.PositionLemmas.{fewer_undone}
 use Rattle.structure_list.proofs.PositionLemmas.{first_due}
 use Rattle.structure_list.proofs.position.Position.passing.Goals as goal
 

@@ -1,7 +1,7 @@
 use Rattle.std.proofs.Common.{ap, ap₂, subst₂, sym, ◌∙◌, List, ℕ}
-use Rattle.number_sets.specs.Sets.{has}
-use Rattle.pns_rules.specs.Structure.{is_needed}
-use Rattle.pns_rules.specs.Trace.{least_below}
+use Rattle.pgraph.specs.number_sets.Sets.{has}
+use Rattle.pgraph.specs.pns_rules.Structure.{is_needed}
+use Rattle.pgraph.specs.pns_rules.Trace.{least_below}
 use Rattle.pgraph.specs.Tables.{shape}
 use Rattle.structure_list.specs.Due.{is_due}
 use Rattle.structure_list.specs.Position.{IsPosition}

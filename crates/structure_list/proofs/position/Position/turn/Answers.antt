@@ -1,5 +1,5 @@
 use Rattle.std.proofs.Common.{subst, ◌<◌, arith}
-use Rattle.unit_sets.specs.declared.node.Node.{Node}
+use Rattle.pgraph.specs.unit_sets.declared.node.Node.{Node}
 use Rattle.pgraph.specs.Tables.{shape}
 use Rattle.structure_list.specs.Position.{IsSettled}
 use Rattle.structure_list.proofs.PositionLemmas.{known_below, turn_found, settled_at}

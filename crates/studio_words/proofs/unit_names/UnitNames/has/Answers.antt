@@ -1,6 +1,6 @@
 use Rattle.std.proofs.Common.{ap, ◌∙◌}
-use Rattle.problem_rules.specs.Names.{is_among}
-use Rattle.pns_problem.proofs.NameLemmas.{has_listed}
+use Rattle.studio_rules.specs.problem_rules.Names.{is_among}
+use Rattle.pns_problem.proofs.Cited.{has_listed}
 use Rattle.studio_words.proofs.unit_names.UnitNames.has.Goals as goal
 
 pub returns : goal.returns

@@ -1,6 +1,6 @@
 use Rattle.std.proofs.Common.{◌++◌, [], ◌∷◌, map, ap, ◌∙◌, string_bytes}
-use Rattle.problem_rules.specs.Names.{is_among}
-use Rattle.pns_problem.proofs.NameLemmas.{names-insert_key}
+use Rattle.studio_rules.specs.problem_rules.Names.{is_among}
+use Rattle.pns_problem.proofs.Cited.{names-insert_key}
 use Rattle.studio_words.proofs.unit_names.UnitNames.push.Goals as goal
 
 pub returns : goal.returns

@@ -1,7 +1,7 @@
 use Rattle.std.proofs.Common.{not, ap, ◌∙◌}
-use Rattle.problem_rules.specs.Names.{is_among}
+use Rattle.edit_rules.specs.problem_rules.Names.{is_among}
 use Rattle.text_lines.specs.View.{texts}
-use Rattle.text_rules.specs.Fault.{with_name}
+use Rattle.edit_rules.specs.text_rules.Fault.{with_name}
 use Rattle.text_lines.proofs.Naming.{has_listed, listed_with}
 use Rattle.text_lines.proofs.name_set.NameSet.add.Goals as goal
 

@@ -1,5 +1,5 @@
 use Rattle.std.proofs.Common.{ap, ◌∙◌}
-use Rattle.problem_rules.specs.Names.{is_among}
+use Rattle.edit_rules.specs.problem_rules.Names.{is_among}
 use Rattle.text_lines.proofs.Naming.{has_listed}
 use Rattle.text_lines.proofs.name_set.NameSet.has.Goals as goal
 

@@ -1,5 +1,5 @@
 use Rattle.std.proofs.Common.{arith}
-use Rattle.number_sets.proofs.SetLemmas.{length_below}
+use Rattle.number_sets.proofs.Cited.{length_below}
 use Rattle.unit_sets.proofs.mat_set.MatSet.count.Goals as goal
 
 pub overflow_add-result : goal.overflow_add-result

@@ -1,7 +1,7 @@
 use Rattle.std.proofs.Common.{sym, ap₂, ◌∙◌, bytes_eq}
 use Rattle.std.proofs.lemmas.Bool.{both_ways}
 use Rattle.std.specs.Cmp.Lexicographic.{bytes_decides}
-use Rattle.number_sets.proofs.SetLemmas.{same_tests}
+use Rattle.number_sets.proofs.Cited.{same_tests}
 use Rattle.unit_sets.specs.Halves.{halves}
 use Rattle.unit_sets.proofs.HalfLemmas.{same_low, same_high}
 use Rattle.unit_sets.proofs.mat_set.MatSetPartialEq.eq.Goals as goal

@@ -2,7 +2,7 @@ use Rattle.std.proofs.Common.{List, ℕ, [], sym, ap, ◌∙◌, subst}
 use Rattle.std.proofs.lemmas.Bool.{both_ways}
 use Rattle.number_sets.specs.Sets.{with_number}
 use Rattle.number_sets.specs.Options.{IsFirstOption}
-use Rattle.number_sets.proofs.OptionLemmas.{base_first, least_first}
+use Rattle.number_sets.proofs.Cited.{base_first, least_first}
 use Rattle.unit_sets.proofs.unit_set.UnitSet.first_option.Goals as goal
 
 pub returns-then-not-is_empty-clause-first : goal.returns-then-not-is_empty-clause-first

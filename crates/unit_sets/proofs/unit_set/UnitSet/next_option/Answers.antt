@@ -1,5 +1,5 @@
 use Rattle.std.proofs.Common.{arith}
-use Rattle.number_sets.proofs.OptionLemmas.{last_is}
+use Rattle.number_sets.proofs.Cited.{last_is}
 use Rattle.unit_sets.proofs.NextLemmas.{filled_lt, carried_lt, free_in_mask, next_of_mask}
 use Rattle.unit_sets.proofs.unit_set.UnitSet.next_option.Goals as goal
 

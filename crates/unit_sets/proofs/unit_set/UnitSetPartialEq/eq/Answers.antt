@@ -1,6 +1,6 @@
 use Rattle.std.proofs.Common.{ap, sym, ◌∙◌, eqb-true, eq-eqb, nat_eq, bytes_eq}
 use Rattle.std.specs.Cmp.Lexicographic.{bytes_decides}
-use Rattle.number_sets.proofs.SetLemmas.{same_tests}
+use Rattle.number_sets.proofs.Cited.{same_tests}
 use Rattle.unit_sets.specs.Masks.{members}
 use Rattle.unit_sets.proofs.MaskLemmas as masks
 use Rattle.unit_sets.proofs.unit_set.UnitSetPartialEq.eq.Goals as goal

@@ -1,0 +1,1 @@
+pub use Rattle.charges.specs as charges

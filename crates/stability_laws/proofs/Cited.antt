@@ -1,0 +1,2 @@
+-- What the proofs of other crates cite.
+pub use Rattle.stability_laws.proofs.NetLemmas.{flows_to, shape_stays}
