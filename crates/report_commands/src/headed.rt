@@ -12,7 +12,7 @@ ghost use Rattle.network_commands.specs.studio_rules.Json.{HeadedJsonSays};
 ghost use Rattle.network_commands.specs.verdicts.Unjudged.{IsUnjudged, IsUnjudgedIf};
 
 use crate::head::claim_word;
-use crate::json_text::{json_text, text_behind};
+use crate::json_lines::{json_text, text_behind};
 use json_text::{HeadedVerdict, Json, text_member};
 use network_commands::{Unjudged, headed_verdict_of, is_plain, line_word, verdict_of, why_word};
 use rank_text::{Claim, Head, Site, Tree};

@@ -23,7 +23,7 @@
 //! others is printed; `call`, the commands; `text`, `ranking` and `table`, the way from the bytes
 //! of a file to the text. Modules of a ranking: `words`, the first line; `first`, the marginals of
 //! its first network; `report` and `object`, two texts; `drawing`, its graph. Modules of the JSON
-//! of a tree: `head`, the verdict and the claim; `json_text`, the whole; `headed`, that of a tree
+//! of a tree: `head`, the verdict and the claim; `json_lines`, the whole; `headed`, that of a tree
 //! that may have a head; `json_call`, from the tree to the text.
 #![tactic(auto)]
 
@@ -34,7 +34,7 @@ mod form;
 mod head;
 mod headed;
 mod json_call;
-mod json_text;
+mod json_lines;
 mod object;
 mod ranking;
 mod report;

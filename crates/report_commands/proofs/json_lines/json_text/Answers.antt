@@ -7,7 +7,7 @@ use Rattle.json_text.specs.report_rules.JsonLower.{low_json}
 use Rattle.network_commands.specs.studio_rules.Lines.{text_of}
 use Rattle.network_commands.specs.studio_rules.Json.{verdict_word, claim_word, lines_behind}
 use Rattle.network_commands.specs.studio_rules.Json.{json_lines}
-use Rattle.report_commands.proofs.json_text.json_text.Goals as goal
+use Rattle.report_commands.proofs.json_lines.json_text.Goals as goal
 
 pub returns : goal.returns
 returns c =

@@ -6,7 +6,7 @@ use Rattle.rank_text.specs.branch_tree.View.{claim_of}
 use Rattle.json_text.specs.report_rules.Marginal.{Marginals, AreClaimMarginals}
 use Rattle.network_commands.specs.studio_rules.Lines.{text_of}
 use Rattle.network_commands.specs.studio_rules.Json.{lines_behind}
-use Rattle.report_commands.proofs.json_text.text_behind.Goals as goal
+use Rattle.report_commands.proofs.json_lines.text_behind.Goals as goal
 
 pub returns-in-Network : goal.returns-in-Network
 returns-in-Network c =
