@@ -1,5 +1,5 @@
-use node_evaluation::{Columns, Network, Place, Tree};
 //! What a search finds, and what a turn of it answers.
+use node_evaluation::{Columns, Network, Place, Tree};
 
 /// What a search finds.
 #[derive(Drop)]

@@ -1,5 +1,5 @@
-use charges::gcd;
 //! Values, each with a denominator of its own, brought over one.
+use charges::gcd;
 
 /// A fraction; a denominator below 1 stands for no number.
 #[derive(Clone, Copy)]

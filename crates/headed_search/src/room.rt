@@ -1,5 +1,5 @@
-use tree_parts::{Facts, Network, UnitSet};
 //! Room for a network that is known.
+use tree_parts::{Facts, Network, UnitSet};
 
 /// The size of a unit over `d`, or none for a unit that is not in the network.
 fn size_of(network: &Network, unit: u32) -> Option<i128> {

@@ -1,5 +1,5 @@
-use tree_parts::{Graph, Node, Step, UnitSet};
 //! Steps that follow from units that are left out.
+use tree_parts::{Graph, Node, Step, UnitSet};
 
 /// A step that leaves out more units, if there is one: those that use a material that no unit
 /// makes, or those that lead to no product.

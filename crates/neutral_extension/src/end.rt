@@ -1,5 +1,5 @@
-use pgraph::{Node, Step};
 //! How an extension ends, and what it gives.
+use pgraph::{Node, Step};
 
 /// How an extension ends.
 #[derive(Clone, Copy, Debug, PartialEq, Eq)]

@@ -1,6 +1,6 @@
+//! What an open leaf of the tree stands for.
 use cert_check::Scaled;
 use rank_laws::Naming;
-//! What an open leaf of the tree stands for.
 
 /// How a leaf names a network, the number of the network, counted from 1, and multipliers over
 /// their scale that bound the cost of the flows of the node.

@@ -1,6 +1,6 @@
+//! What the range of a spot is, and why there is none.
 use solver::{Columns, Network, Tree};
 use stability_laws::Place;
-//! What the range of a spot is, and why there is none.
 
 /// The values of a spot at which a network is optimal, in millionths: each from `from` to `to`. One
 /// step below `from` the network `below` is cheaper, and one step above `to` the network `above`. A

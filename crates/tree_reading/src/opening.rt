@@ -1,5 +1,5 @@
-use branch_tree::UnitSet;
 //! What the first lines of a claim and of a tail say.
+use branch_tree::UnitSet;
 
 /// The first line of a claim.
 #[derive(Clone, Copy)]
