@@ -7,7 +7,6 @@ use Rattle.flow_program.specs.flow_rules.Relaxed.{stays, units}
 use Rattle.flow_program.specs.flow_rules.LinearProgram.{linear_of}
 use Rattle.flow_program.specs.flow_rules.ReadFlows.{AreRead}
 use Rattle.path_laws.proofs.Cited as law
-use Rattle.path_laws.proofs.Cited as split
 use Rattle.dual_simplex.specs.Rows.{table, basis}
 use Rattle.dual_simplex.specs.Bench.{Bench, AreFlowsOf}
 use Rattle.dual_simplex.specs.FlowLaws.{FlowsAreRelaxed, FlowsAreLeast, UnitsAreInside}
@@ -49,10 +48,10 @@ split_is_decided net n s i l = ap (λ (o : Bool). n.inside i || o) (s i l) ∙ o
 
 pub split_flows_are_flows : SplitFlowsAreFlows
 split_flows_are_flows p v n q b s e h f =
-    split.relaxed_are_flows p n s b.flows b.flow_den (flows_are_relaxed p v n q b e h f)
+    law.relaxed_are_flows p n s b.flows b.flow_den (flows_are_relaxed p v n q b e h f)
 
 pub split_flows_are_least : SplitFlowsAreLeast
 split_flows_are_least p v n q b s e h f =
     flows_are_least p v n q b e h f
     ∙ ap (λ (z : ℤ). b.d *ℤ z)
-    (sym (split.relaxed_cost_is_cost p n s (beside (units (net_of p) n) b.flows) b.flow_den))
+    (sym (law.relaxed_cost_is_cost p n s (beside (units (net_of p) n) b.flows) b.flow_den))

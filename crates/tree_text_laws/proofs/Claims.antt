@@ -22,7 +22,7 @@ use Rattle.tree_text_laws.specs.Fits.{KeepsClaim}
 use Rattle.tree_text_laws.proofs.ClaimLines.{opening_line, FitsOpening, opening_lines, network_line}
 use Rattle.tree_text_laws.proofs.ClaimLines.{sizes_line, cost_line}
 use Rattle.tree_text_laws.proofs.NodeLines.{all_each, each_all}
-use Rattle.tree_text_laws.proofs.Parts.{good, good_is, then_ok, first_back, first_again}
+use Rattle.tree_text_laws.proofs.PartTexts.{good, good_is, then_ok, first_back, first_again}
 use Rattle.tree_text_laws.specs.Codes.{line_of, IsToken}
 
 abbrev sizes_text : ℤ × List ℤ → List Token

@@ -23,7 +23,7 @@ use Rattle.tree_text_laws.specs.Lines.{lines_said, BeginsNoSet, BeginsNoFront}
 use Rattle.tree_text_laws.proofs.NodeLines.{set_back, set_again, set_line_tokens, front_back}
 use Rattle.tree_text_laws.proofs.NodeLines.{front_again, front_no_set, front_line_tokens}
 use Rattle.tree_text_laws.proofs.Nodes.{next_is, next_again, next_none, counted_so}
-use Rattle.tree_text_laws.proofs.Parts.{good, good_is, on_line_ok}
+use Rattle.tree_text_laws.proofs.PartTexts.{good, good_is, on_line_ok}
 
 abbrev Front : Type 0
 Front = List HeadLine

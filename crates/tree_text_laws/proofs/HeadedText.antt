@@ -23,7 +23,7 @@ use Rattle.tree_text_laws.proofs.Claims.{claim_back, claim_again, claim_tokens, 
 use Rattle.tree_text_laws.proofs.Fronts.{front_took, front_takes, front_each}
 use Rattle.tree_text_laws.proofs.NodeLines.{option_no_front, option_no_set}
 use Rattle.tree_text_laws.proofs.Nodes.{tree_back, tree_again, tree_tokens, behind_tree}
-use Rattle.tree_text_laws.proofs.Parts.{good_is, on_line_ok, then_ok}
+use Rattle.tree_text_laws.proofs.PartTexts.{good_is, on_line_ok, then_ok}
 use Rattle.tree_text_laws.proofs.Pieces.{text_back, text_again, HasNoFeed}
 use Rattle.tree_text_laws.specs.Codes.{line_of, IsToken}
 use Rattle.tree_text_laws.proofs.Said.{no_feed}

@@ -19,7 +19,7 @@ use Rattle.tree_text_laws.specs.Laws.{IsHeadOf}
 use Rattle.tree_text_laws.specs.Codes.{line_of}
 use Rattle.tree_text_laws.specs.Lines.{lines_said, BeginsNoStep}
 use Rattle.tree_text_laws.proofs.NodeLines.{step_back, step_again, option_lines}
-use Rattle.tree_text_laws.proofs.Parts.{good, good_is, on_line_ok, first_back, first_again}
+use Rattle.tree_text_laws.proofs.PartTexts.{good, good_is, on_line_ok, first_back, first_again}
 
 module _ (p : Problem) (formed : IsWellFormed p) where
   -- steps after those of a head, and what follows them

@@ -5,7 +5,7 @@ mod Fronts
 mod HeadedText
 mod Heads
 pub mod Nodes
-pub mod Parts
+pub mod PartTexts
 pub mod Tails
 mod Takings
 mod WholeText

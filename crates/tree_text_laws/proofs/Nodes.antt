@@ -32,7 +32,7 @@ use Rattle.tree_text_laws.proofs.NodeLines.{step_back, step_again, step_line_tok
 use Rattle.tree_text_laws.proofs.NodeLines.{end_line_tokens, end_no_step, set_back, set_again}
 use Rattle.tree_text_laws.proofs.NodeLines.{set_line_tokens, option_lines, option_no_set, root_back}
 use Rattle.tree_text_laws.proofs.NodeLines.{root_again}
-use Rattle.tree_text_laws.proofs.Parts.{good_is, on_line_ok}
+use Rattle.tree_text_laws.proofs.PartTexts.{good_is, on_line_ok}
 use Rattle.tree_text_laws.specs.Codes.{line_of, IsToken}
 use Rattle.tree_text_laws.specs.Lines.{BeginsNoSet}
 

@@ -16,7 +16,7 @@ use Rattle.tree_text_rules.specs.Spelling.{column_text, place_fields, end_lines,
 use Rattle.tree_text_rules.specs.declared.Word.TheVariants as words
 use Rattle.tree_text_laws.specs.LineFits.{FitsPlace}
 use Rattle.tree_text_laws.specs.Fits.{FitsTail}
-use Rattle.tree_text_laws.proofs.Parts.{good_is, first_back, first_again}
+use Rattle.tree_text_laws.proofs.PartTexts.{good_is, first_back, first_again}
 use Rattle.tree_text_laws.specs.Codes.{line_of, IsToken}
 use Rattle.tree_text_laws.specs.Lines.{BeginsNoSet}
 use Rattle.tree_text_laws.proofs.NodeLines.{no_set}

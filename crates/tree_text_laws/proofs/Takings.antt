@@ -29,7 +29,7 @@ use Rattle.tree_text_laws.proofs.Fronts.{front_took, front_takes}
 use Rattle.tree_text_laws.proofs.HeadedText.{headed_back, headed_again}
 use Rattle.tree_text_laws.proofs.Nodes.{counted_so, tree_back, tree_again, behind_tree}
 use Rattle.tree_text_laws.proofs.Nodes.{behind_nodes, behind_steps, behind_sets}
-use Rattle.tree_text_laws.proofs.Parts.{good, good_is}
+use Rattle.tree_text_laws.proofs.PartTexts.{good, good_is}
 use Rattle.tree_text_laws.proofs.Tails.{tail_back, tail_again}
 use Rattle.tree_text_laws.proofs.WholeText.{rest_back, rest_again}
 

@@ -1,6 +1,6 @@
 use Rattle.std.proofs.Common.{sym, ◌∙◌, ap}
 use Rattle.tree_text_rules.specs.Read.{read_text}
-use Rattle.tree_text_laws.proofs.Parts.{good_is}
+use Rattle.tree_text_laws.proofs.PartTexts.{good_is}
 use Rattle.tree_text_laws.proofs.laws.texts_tell.Goals as goal
 
 pub returns : goal.returns
