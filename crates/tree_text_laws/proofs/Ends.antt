@@ -22,7 +22,8 @@ use Rattle.tree_text_laws.specs.Codes.{line_of}
 use Rattle.tree_text_laws.specs.Lines.{lines_said, BeginsNoSet}
 use Rattle.tree_text_laws.proofs.NodeLines.{end_lines, set_back, set_again}
 use Rattle.tree_text_laws.proofs.Nodes.{charge_is, no_covers, next_is, next_again, next_none}
-use Rattle.tree_text_laws.proofs.PartTexts.{good, good_is, on_line_ok, then_ok, first_back, first_again}
+use Rattle.tree_text_laws.proofs.PartTexts.{good, good_is, on_line_ok, then_ok, first_back}
+use Rattle.tree_text_laws.proofs.PartTexts.{first_again}
 
 abbrev End : Type 0
 End = trees.End Leaf
