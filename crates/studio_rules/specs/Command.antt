@@ -5,7 +5,7 @@ use Rattle.std.specs.Prelude.{option_map, if◌then◌else◌}
 use Rattle.std.specs.List.{list_all, slice_split, Contains}
 use Rattle.std.specs.Str.{bytes_eq, byte}
 use Rattle.report_rules.specs.problem_rules.Names.{is_name, has_double}
-use Rattle.studio_rules.specs.PageLines.{text_of, IsOfLines}
+use Rattle.studio_rules.specs.PageLines.{IsOfLines}
 use Rattle.studio_rules.specs.Overview.{overview, version}
 use Rattle.studio_rules.specs.Pages.{page_text, command_text}
 use Rattle.report_rules.specs.declared.spot.SpotKind.{SpotKind}
@@ -216,8 +216,8 @@ page_asked words = None
 -- what a word asks for that is the only one
 abbrev pub alone : List ℕ → Option Command
 alone word =
-    if is_help_word word then Some (Telling (text_of overview))
-    else if is_version_word word then Some (Telling (text_of version))
+    if is_help_word word then Some (Telling overview)
+    else if is_version_word word then Some (Telling version)
     else None
 
 -- a tree and the parts that are put back into it, at most a hundred

@@ -10,14 +10,17 @@
 //! - commands, mostly a file each; `Best` says what acceptance means, `Start` at which node a part
 //!   begins;
 //! - the words of causes: `RefusalWords` and `RankWords`;
-//! - help: `Overview`, `Pages` (which page is on which topic), and the pages themselves over
-//!   `PageLines`. `TopicPages` has those of the constant [`TOPIC_PAGES`].
+//! - help: `Overview` and `Pages`, which page is on which topic. The texts are constants: the pages
+//!   on commands are [`COMMAND_PAGES`], the others [`TOPIC_PAGES`], which `TopicPages` has;
+//!   `PageLines` says what a text of whole lines is.
 #![tactic(auto)]
 
+mod command_pages;
 mod scene;
 mod status;
 mod topic_pages;
 
+pub use command_pages::{COMMAND_PAGES, OVERVIEW, STATUS_PAGE, VERSION};
 pub use report_rules::{Item, RankWhy, SpotKind, Warning, Why};
 pub use scene::Scene;
 pub use status::Status;

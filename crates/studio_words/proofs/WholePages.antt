@@ -6,9 +6,11 @@ use Rattle.std.proofs.lemmas.Bool.{false≢true, eqb-true}
 use Rattle.std.specs.List.{list_all}
 use Rattle.std.specs.Str.{bytes_eq}
 use Rattle.studio_rules.specs.PageLines.{text_of, IsOfLines}
-use Rattle.studio_rules.specs.ProgramPages.{status_page}
-use Rattle.studio_rules.specs.Pages.{command_page_of, command_text, page_text, text_or}
+use Rattle.studio_rules.specs.Pages.{command_text, page_text, text_or, status_text}
 use Rattle.studio_rules.specs.TopicPages.{text_among, topic_text}
+use Rattle.studio_rules.specs.Overview.{overview, version}
+use Rattle.studio_rules.specs.declared.command_pages.TheConstants.{COMMAND_PAGES, STATUS_PAGE}
+use Rattle.studio_rules.specs.declared.command_pages.TheConstants.{OVERVIEW, VERSION}
 use Rattle.studio_rules.specs.declared.topic_pages.TheConstants.{TOPIC_PAGES}
 
 -- nothing follows the last line feed
@@ -45,12 +47,21 @@ topics_whole : (topic : List ℕ) → IfSome (topic_text topic) IsOfLines
 unfolding topic_text
 topics_whole topic = among_whole (map (λ page. (page.0.now, page.1.now)) TOPIC_PAGES) topic refl
 
-lines_whole : (page : Option (List (List ℕ))) → IfSome (option_map text_of page) IsOfLines
-lines_whole None = tt
-lines_whole (Some lines) = (lines, refl)
-
 pub command_whole : (topic : List ℕ) → IfSome (command_text topic) IsOfLines
-command_whole topic = lines_whole (command_page_of topic)
+unfolding command_text
+command_whole topic = among_whole (map (λ page. (page.0.now, page.1.now)) COMMAND_PAGES) topic refl
+
+status_whole : IsOfLines status_text
+unfolding status_text
+status_whole = whole STATUS_PAGE.now refl
+
+pub overview_whole : IsOfLines overview
+unfolding overview
+overview_whole = whole OVERVIEW.now refl
+
+pub version_whole : IsOfLines version
+unfolding version
+version_whole = whole VERSION.now refl
 
 or_whole : (x y : Option (List ℕ)) → IfSome x IsOfLines → IfSome y IsOfLines
     → IfSome (text_or x y) IsOfLines
@@ -64,6 +75,6 @@ either_whole false x y p q = q
 
 pub page_whole : (topic : List ℕ) → IfSome (page_text topic) IsOfLines
 page_whole topic =
-    either_whole (bytes_eq topic (codes "status")) (Some (text_of status_page))
-    (text_or (command_text topic) (topic_text topic)) (status_page, refl)
+    either_whole (bytes_eq topic (codes "status")) (Some status_text)
+    (text_or (command_text topic) (topic_text topic)) status_whole
     (or_whole (command_text topic) (topic_text topic) (command_whole topic) (topics_whole topic))

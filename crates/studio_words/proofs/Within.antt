@@ -7,10 +7,10 @@ use Rattle.std.specs.Str.{bytes_eq, byte}
 use Rattle.std.proofs.lemmas.Bool.{leb-true}
 use Rattle.studio_rules.specs.text_rules.Amount.{number_of}
 use Rattle.studio_rules.specs.Numeral.{is_numeral, number_within, last_byte, but_last}
-use Rattle.studio_rules.specs.PageLines.{text_of, IsOfLines}
+use Rattle.studio_rules.specs.PageLines.{IsOfLines}
 use Rattle.studio_rules.specs.Overview.{overview, version}
 use Rattle.studio_rules.specs.Pages.{page_text, command_text}
-use Rattle.studio_words.proofs.WholePages.{command_whole, page_whole}
+use Rattle.studio_words.proofs.WholePages.{command_whole, page_whole, overview_whole, version_whole}
 use Rattle.studio_rules.specs.Command.{Command, Max, Axioms, Flows, Listing, Linting, Migrate}
 use Rattle.studio_rules.specs.Command.{Editing, Undoing, Checking, RankChecking, Solving, Showing}
 use Rattle.studio_rules.specs.Command.{Telling, is_help_word, is_version_word, is_page_word}
@@ -228,8 +228,8 @@ of_file_within word file =
 forms_within : (words : List (List ℕ)) → IfSome (form_of words) AreWithin
 forms_within [] = tt
 forms_within (word ∷ []) =
-    either_within (is_help_word word) (Some (Telling (text_of overview))) _ (overview, refl)
-    (either_within (is_version_word word) (Some (Telling (text_of version))) None (version, refl)
+    either_within (is_help_word word) (Some (Telling overview)) _ overview_whole
+    (either_within (is_version_word word) (Some (Telling version)) None version_whole
     tt)
 forms_within (word ∷ file ∷ []) =
     either_within (bytes_eq word (codes "help")) (option_map Telling (page_text file)) _

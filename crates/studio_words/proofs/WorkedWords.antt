@@ -1,6 +1,6 @@
 -- Words of calls, and the commands that they are, by computation.
 use Rattle.std.proofs.Common.{◌≡◌, [], ◌∷◌, Some, None, codes, option_map, refl}
-use Rattle.studio_rules.specs.Pages.{command_page_of, command_text}
+use Rattle.studio_rules.specs.Pages.{command_text}
 use Rattle.studio_rules.specs.Command.{command_of, budget_of, Max, Listing, Linting, Solving}
 use Rattle.studio_rules.specs.Command.{Alternatives}
 use Rattle.studio_rules.specs.Command.{Ranking, Planning, Parting, PartingAgainst, Ranging, Trial}
@@ -109,13 +109,13 @@ list_without_count = refl
 -- the page of a command
 page_behind : command_of (codes "solve" ∷ codes "--help" ∷ [])
     ≡ option_map Telling (command_text (codes "solve"))
-unfolding command_page_of
+unfolding command_text
 page_behind = refl
 
 page_whatever_follows : command_of
     (codes "merge" ∷ codes "-h" ∷ codes "a" ∷ codes "b" ∷ codes "c" ∷ [])
     ≡ option_map Telling (command_text (codes "merge"))
-unfolding command_page_of
+unfolding command_text
 page_whatever_follows = refl
 
 -- standard input is one file of a call at most

@@ -4,11 +4,10 @@
 //! the forms, and the ranges of a command's numbers.
 //!
 //! Help is what the program says of itself: the commands on one screen, a page on each command and
-//! on the statuses, its version. Each page of a command is in `studio_rules` as lines, and in the
-//! code as bytes; the contracts say that they agree. The pages on formats and faults are one
-//! constant there, `TOPIC_PAGES`. `Pages` has the topics. A new command gets an entry in it, a line
-//! in `Overview` and a page in the file of its kind, and the same in the code. `tools/help write`
-//! then writes the manual page and the completions anew, and says what does not agree.
+//! on the statuses, its version. The texts are constants of `studio_rules`, which its definitions
+//! and this crate take. A new command gets an entry in `COMMAND_PAGES` there, and a line in
+//! `OVERVIEW`. `tools/help write` then writes the manual page and the completions anew, and says
+//! what does not agree.
 //!
 //! Second lines follow the first line of a refusal, for people: what was wrong, in which place, and
 //! how to mend it. [`Notes`] has the lines. Contracts promise their shape, `Seconds` of
@@ -18,8 +17,7 @@
 //! Modules of words: `command`, the commands; `file_words`, words that are files; `merging`, the
 //! words of `merge`; `unit_names`, the word UNITS; `number`, numbers in words.
 //!
-//! Modules of help: `overview`; `pages`, the page on each topic; `structures`, `flows`, `reports`,
-//! `searches`, `ranks`, `parts`, `edits`, `plans`, `program`, the pages.
+//! Modules of help: `overview`; `pages`, the page on each topic.
 //!
 //! Modules of second lines: `notes`, the lines; `cut`, pieces of a text; `nearest`, the known word
 //! that is nearest to another; `form`, the form of a command and the first word that does not fit
@@ -30,10 +28,8 @@
 mod call_words;
 mod command;
 mod cut;
-mod edits;
 mod faults;
 mod file_words;
-mod flows;
 mod form;
 mod merging;
 mod nearest;
@@ -41,14 +37,7 @@ mod notes;
 mod number;
 mod overview;
 mod pages;
-mod parts;
-mod plans;
-mod program;
-mod ranks;
 mod reasons;
-mod reports;
-mod searches;
-mod structures;
 mod unit_names;
 
 pub use call_words::usage;

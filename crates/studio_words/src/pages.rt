@@ -1,55 +1,23 @@
 //! The page on each topic.
 ghost use Rattle.std.specs.Prelude.{◌≡◌, map, option_map};
-ghost use Rattle.studio_rules.specs.Pages.{command_text, page_text};
+ghost use Rattle.studio_rules.specs.Pages.{command_text, page_text, status_text};
 ghost use Rattle.studio_rules.specs.TopicPages.{text_among, topic_text};
 
-use crate::edits::{edit_page, make_page, migrate_page, undo_page};
-use crate::flows::{check_page, flows_page};
-use crate::parts::{merge_page, part_page, split_page};
-use crate::plans::{expand_page, periods_page};
-use crate::program::{help_page, status_page, version_page};
-use crate::ranks::{alternatives_page, rank_page, rankcheck_page};
-use crate::reports::{graph_page, json_page, report_page, stable_page, table_page};
-use crate::searches::{show_page, solve_page, trial_page};
-use crate::structures::{axioms_page, lint_page, list_page, max_page};
-use studio_rules::TOPIC_PAGES;
+use studio_rules::{COMMAND_PAGES, STATUS_PAGE, TOPIC_PAGES};
 
 /// The page on a command, by its first word.
-#[tactic(auto, unfolding(studio_rules::specs::Pages::command_page_of))]
+#[tactic(auto, unfolding(studio_rules::specs::Pages::command_text))]
 pub fn command_page_on(topic: &str) -> Option<&'static [u8]>
     ensures { option_map (λ page. page.now) result ≡ command_text topic.now }
 {
-    match topic {
-        "max" => Some(max_page()),
-        "axioms" => Some(axioms_page()),
-        "list" => Some(list_page()),
-        "lint" => Some(lint_page()),
-        "flows" => Some(flows_page()),
-        "solve" => Some(solve_page()),
-        "show" => Some(show_page()),
-        "check" => Some(check_page()),
-        "table" => Some(table_page()),
-        "report" => Some(report_page()),
-        "json" => Some(json_page()),
-        "graph" => Some(graph_page()),
-        "stable" => Some(stable_page()),
-        "edit" => Some(edit_page()),
-        "undo" => Some(undo_page()),
-        "migrate" => Some(migrate_page()),
-        "expand" => Some(expand_page()),
-        "periods" => Some(periods_page()),
-        "make" => Some(make_page()),
-        "trial" => Some(trial_page()),
-        "rank" => Some(rank_page()),
-        "alternatives" => Some(alternatives_page()),
-        "rankcheck" => Some(rankcheck_page()),
-        "split" => Some(split_page()),
-        "part" => Some(part_page()),
-        "merge" => Some(merge_page()),
-        "help" => Some(help_page()),
-        "version" => Some(version_page()),
-        _ => None,
-    }
+    text_among(&COMMAND_PAGES, topic)
+}
+
+#[tactic(auto, unfolding(studio_rules::specs::Pages::status_text))]
+fn status_page() -> &'static [u8]
+    ensures { result.now ≡ status_text }
+{
+    STATUS_PAGE
 }
 
 /// The first page on the topic, of pages with their topics.
