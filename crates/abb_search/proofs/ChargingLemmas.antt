@@ -13,9 +13,10 @@ use Rattle.node_evaluation.specs.tree_rules.Claim as claims
 use Rattle.node_evaluation.specs.tree_rules.Claim.{claimed_cost}
 use Rattle.node_evaluation.specs.search_tree.Cells.{cell_at}
 use Rattle.node_evaluation.specs.tree_rules.Costs.{HasFallen}
-use Rattle.node_evaluation.specs.search_tree.Values.{IsPositiveCost}
+use Rattle.node_evaluation.specs.branch_tree.Values.{IsPositiveCost}
 use Rattle.node_evaluation.specs.declared.evaluator.Charged.{Charged}
-use Rattle.node_evaluation.specs.Evaluated.{PastPlaces, IsChargeOf, cost_in, handed_in}
+use Rattle.node_evaluation.specs.branch_tree.Evaluated.{PastPlaces, cost_in}
+use Rattle.node_evaluation.specs.Proofs.{IsChargeOf, handed_in}
 use Rattle.node_evaluation.specs.Looks.{cost_of}
 use Rattle.node_evaluation.specs.Children.{claim_with}
 use Rattle.abb_search.specs.declared.growing.Growing.{Growing}

@@ -17,18 +17,19 @@ use Rattle.node_evaluation.specs.tree_rules.Claim.{CostOver}
 use Rattle.node_evaluation.specs.search_tree.declared.shut.Shut.{Shut}
 use Rattle.node_evaluation.specs.search_tree.Cells.{place_of, cell_at}
 use Rattle.node_evaluation.specs.search_tree.Growth.{is_open, EndsOpen}
-use Rattle.node_evaluation.specs.search_tree.Values.{IsPositive}
+use Rattle.node_evaluation.specs.branch_tree.Values.{IsPositive}
 use Rattle.node_evaluation.specs.tree_rules.Costs.{IsNoMore}
 use Rattle.node_evaluation.proofs.search_tree.Cited.{leaf_fallen, under_less, reached_any}
-use Rattle.node_evaluation.specs.declared.evaluator.Bound.{Bound}
-use Rattle.node_evaluation.specs.declared.evaluator.LowerBound.{LowerBound}
+use Rattle.node_evaluation.specs.branch_tree.declared.evaluation.Bound.{Bound}
+use Rattle.node_evaluation.specs.branch_tree.declared.evaluation.LowerBound.{LowerBound}
 use Rattle.node_evaluation.specs.declared.evaluator.Proof.{Proof}
 use Rattle.node_evaluation.specs.declared.evaluator.Proof.TheVariants as proofs
 use Rattle.node_evaluation.specs.declared.looks.Worth.{Worth}
 use Rattle.node_evaluation.specs.declared.looks.Worth.TheVariants as worths
 use Rattle.node_evaluation.specs.declared.looks.Ready.{Ready}
-use Rattle.node_evaluation.specs.Evaluated.{PastPlaces, cost_over, cost_in, IsBoundOf, IsWorth}
-use Rattle.node_evaluation.specs.Evaluated.{IsProof}
+use Rattle.node_evaluation.specs.branch_tree.Evaluated.{PastPlaces, cost_over, cost_in, IsBoundOf}
+use Rattle.node_evaluation.specs.Proofs.{IsWorth}
+use Rattle.node_evaluation.specs.Proofs.{IsProof}
 use Rattle.node_evaluation.specs.Looks.{IsWorthOf, IsReady, IsSomeReady}
 use Rattle.abb_search.specs.declared.growing.Growing.{Growing}
 use Rattle.abb_search.specs.Worth.{refutation_in, refutation_of, is_settled, is_settled_worth}

@@ -26,8 +26,8 @@ use Rattle.pns_io.specs.problem_rules.Validity.{IsValid}
 use Rattle.node_evaluation.specs.number_sets.Sets.{listed}
 use Rattle.std.specs.List.{slice_get}
 use Rattle.node_evaluation.specs.search_tree.Kept.{IsKept}
-use Rattle.node_evaluation.specs.declared.evaluator.PastStop.{PastStop}
-use Rattle.node_evaluation.specs.Evaluated.{PastPlaces}
+use Rattle.node_evaluation.specs.branch_tree.declared.evaluation.PastStop.{PastStop}
+use Rattle.node_evaluation.specs.branch_tree.Evaluated.{PastPlaces}
 use Rattle.node_evaluation.specs.Children.{claim_with}
 use Rattle.abb_search.specs.declared.growing.Growing.{Growing}
 use Rattle.abb_search.specs.Growing.{IsTreeKept, IsStoppedAt}

@@ -23,7 +23,7 @@ use Rattle.node_evaluation.specs.node_pool.Pooled.{Pooled, AreSameNodes}
 use Rattle.node_evaluation.specs.declared.looks.Ready.{Ready}
 use Rattle.node_evaluation.specs.declared.children.StoppedAt.{StoppedAt}
 use Rattle.node_evaluation.specs.declared.children.Children.{Children}
-use Rattle.node_evaluation.specs.Evaluated.{PastPlaces}
+use Rattle.node_evaluation.specs.branch_tree.Evaluated.{PastPlaces}
 use Rattle.node_evaluation.specs.Children.{cells_of, values_of, StopHolds, AreSeen, AreSolvedBy}
 use Rattle.abb_search.specs.declared.growing.Growing.{Growing}
 use Rattle.slab.specs.Slab.{Slab, Updates}

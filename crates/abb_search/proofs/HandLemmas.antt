@@ -23,7 +23,7 @@ use Rattle.node_evaluation.specs.search_tree.declared.growth.Fresh.{Fresh}
 use Rattle.node_evaluation.specs.search_tree.Turns.{IsFreshChild, AreChildren}
 use Rattle.node_evaluation.specs.declared.looks.Worth.{Worth}
 use Rattle.node_evaluation.specs.declared.looks.Ready.{Ready}
-use Rattle.node_evaluation.specs.Evaluated.{PastPlaces}
+use Rattle.node_evaluation.specs.branch_tree.Evaluated.{PastPlaces}
 use Rattle.node_evaluation.specs.Looks.{is_bounded, has_bounded, KnowsCell, IsSomeReady}
 use Rattle.node_evaluation.specs.Children.{cells_of, values_of, AreReady, IsSolvedBy, AreSolvedBy}
 use Rattle.abb_search.specs.Worth.{with_worth}

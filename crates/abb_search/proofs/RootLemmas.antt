@@ -20,11 +20,11 @@ use Rattle.node_evaluation.specs.search_tree.Fits.{Follows, EndFits}
 use Rattle.node_evaluation.specs.search_tree.Growth.{is_open, EndsOpen}
 use Rattle.node_evaluation.specs.link_lists.Lists.{has}
 use Rattle.std.proofs.lemmas.Bool.{or_right}
-use Rattle.node_evaluation.specs.search_tree.Values.{IsPositiveCost}
+use Rattle.node_evaluation.specs.branch_tree.Values.{IsPositiveCost}
 use Rattle.node_evaluation.proofs.search_tree.Cited.{leaf_fallen}
 use Rattle.node_evaluation.specs.search_tree.Kept.{LeafIsKept, EndIsKept, IsKept}
-use Rattle.node_evaluation.specs.declared.evaluator.PastStop.{PastStop}
-use Rattle.node_evaluation.specs.Evaluated.{PastPlaces}
+use Rattle.node_evaluation.specs.branch_tree.declared.evaluation.PastStop.{PastStop}
+use Rattle.node_evaluation.specs.branch_tree.Evaluated.{PastPlaces}
 use Rattle.node_evaluation.specs.Looks.{is_bounded, has_bounded, cost_of, KnowsCell, IsStop}
 use Rattle.node_evaluation.specs.Looks.{IsOpenAs}
 use Rattle.node_evaluation.proofs.Cited.{cost_is, found_best}

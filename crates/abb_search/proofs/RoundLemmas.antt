@@ -8,10 +8,10 @@ use Rattle.node_evaluation.specs.exact_numbers.declared.number.Mixed.{Mixed}
 use Rattle.node_evaluation.specs.exact_numbers.Number.{numerator, denominator}
 use Rattle.node_evaluation.specs.tree_rules.Claim.{Network, CostOver, claimed_cost, IsAtMost}
 use Rattle.node_evaluation.specs.tree_rules.Costs.{IsNoMore}
-use Rattle.node_evaluation.specs.search_tree.Values.{IsPositive}
+use Rattle.node_evaluation.specs.branch_tree.Values.{IsPositive}
 use Rattle.node_evaluation.proofs.search_tree.Cited.{fraction_trans}
-use Rattle.node_evaluation.specs.declared.evaluator.Interval.{Interval}
-use Rattle.node_evaluation.specs.Evaluated.{PastPlaces, cost_over, cost_in}
+use Rattle.node_evaluation.specs.branch_tree.declared.evaluation.Interval.{Interval}
+use Rattle.node_evaluation.specs.branch_tree.Evaluated.{PastPlaces, cost_over, cost_in}
 use Rattle.node_evaluation.specs.Children.{claim_with}
 use Rattle.abb_search.specs.declared.growing.Growing.{Growing}
 use Rattle.abb_search.specs.declared.growing.StoppedLeaf.{StoppedLeaf}

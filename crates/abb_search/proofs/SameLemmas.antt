@@ -14,9 +14,9 @@ use Rattle.slab.specs.Slab.{get}
 use Rattle.node_evaluation.specs.search_tree.Growth.{EndsOpen}
 use Rattle.node_evaluation.specs.search_tree.Cells.{Cell, place_of, cell_at}
 use Rattle.node_evaluation.specs.search_tree.Kept.{IsKeptFor}
-use Rattle.node_evaluation.specs.declared.evaluator.PastStop.{PastStop}
+use Rattle.node_evaluation.specs.branch_tree.declared.evaluation.PastStop.{PastStop}
 use Rattle.node_evaluation.specs.declared.looks.Ready.{Ready}
-use Rattle.node_evaluation.specs.Evaluated.{PastPlaces}
+use Rattle.node_evaluation.specs.branch_tree.Evaluated.{PastPlaces}
 use Rattle.node_evaluation.specs.Looks.{has_bounded, IsStop}
 use Rattle.node_evaluation.specs.Children.{claim_with}
 use Rattle.abb_search.specs.declared.growing.Growing.{Growing}

@@ -21,11 +21,11 @@ use Rattle.node_evaluation.specs.search_tree.Cells.{place_of, cell_at}
 use Rattle.node_evaluation.specs.search_tree.Growth.{is_open, EndsOpen}
 use Rattle.node_evaluation.proofs.search_tree.Cited.{placed_new, placed_stays, others_stay}
 use Rattle.node_evaluation.proofs.search_tree.Cited.{without_gone}
-use Rattle.node_evaluation.specs.declared.evaluator.Bound.{Bound}
+use Rattle.node_evaluation.specs.branch_tree.declared.evaluation.Bound.{Bound}
 use Rattle.node_evaluation.specs.declared.looks.Worth.{Worth}
 use Rattle.node_evaluation.specs.declared.looks.Worth.TheVariants.{Settled, Refuted}
 use Rattle.node_evaluation.specs.declared.looks.Ready.{Ready}
-use Rattle.node_evaluation.specs.Evaluated.{PastPlaces, IsBoundOf}
+use Rattle.node_evaluation.specs.branch_tree.Evaluated.{PastPlaces, IsBoundOf}
 use Rattle.node_evaluation.specs.Looks.{IsWorthOf, IsReady, IsSomeReady}
 use Rattle.abb_search.specs.declared.growing.Growing.{Growing}
 use Rattle.abb_search.specs.declared.growing.StoppedLeaf.{StoppedLeaf}

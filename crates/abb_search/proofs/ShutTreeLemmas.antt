@@ -29,7 +29,7 @@ use Rattle.node_evaluation.specs.exact_numbers.declared.number.Mixed.{Mixed}
 use Rattle.node_evaluation.specs.declared.looks.Ready.{Ready}
 use Rattle.node_evaluation.specs.declared.looks.Worth.{Worth}
 use Rattle.node_evaluation.specs.declared.looks.Worth.TheVariants as worths
-use Rattle.node_evaluation.specs.Evaluated.{PastPlaces, cost_over}
+use Rattle.node_evaluation.specs.branch_tree.Evaluated.{PastPlaces, cost_over}
 use Rattle.node_evaluation.specs.Looks.{is_bounded, has_bounded, KnowsCell, IsWorthOf}
 use Rattle.node_evaluation.specs.Children.{claim_with}
 use Rattle.abb_search.specs.declared.growing.Growing.{Growing}

@@ -20,7 +20,7 @@ use Rattle.node_evaluation.specs.search_tree.Growth.{EndsOpen, as_shut}
 use Rattle.node_evaluation.proofs.search_tree.Cited.{others_stay, without_gone, shutting_is_kept}
 use Rattle.node_evaluation.specs.search_tree.Kept.{IsKeptFor}
 use Rattle.node_evaluation.specs.search_tree.Turns.{AreShut, IsShut}
-use Rattle.node_evaluation.specs.Evaluated.{PastPlaces}
+use Rattle.node_evaluation.specs.branch_tree.Evaluated.{PastPlaces}
 use Rattle.node_evaluation.specs.Looks.{has_bounded, is_bounded_leaf}
 use Rattle.node_evaluation.specs.Children.{claim_with}
 use Rattle.abb_search.specs.declared.growing.Growing.{Growing}

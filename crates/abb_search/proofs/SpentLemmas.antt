@@ -18,14 +18,14 @@ use Rattle.node_evaluation.specs.search_tree.declared.shut.Shut.{Shut}
 use Rattle.node_evaluation.specs.search_tree.Cells.{place_of, cell_at}
 use Rattle.node_evaluation.specs.search_tree.Shut.{shut_cells}
 use Rattle.node_evaluation.proofs.search_tree.Cited.{proof_of, shut_length}
-use Rattle.node_evaluation.specs.search_tree.Values.{IsPositiveCost}
+use Rattle.node_evaluation.specs.branch_tree.Values.{IsPositiveCost}
 use Rattle.node_evaluation.specs.declared.choice.Choice.{Choice}
 use Rattle.node_evaluation.specs.Choices.{IsChoice, way_of, option_count}
 use Rattle.node_evaluation.proofs.Cited.{option_count_is, next_count}
 use Rattle.node_evaluation.specs.declared.looks.Ready.{Ready}
 use Rattle.node_evaluation.specs.declared.looks.Worth.{Worth}
 use Rattle.node_evaluation.specs.declared.looks.Worth.TheVariants as worths
-use Rattle.node_evaluation.specs.Evaluated.{PastPlaces}
+use Rattle.node_evaluation.specs.branch_tree.Evaluated.{PastPlaces}
 use Rattle.node_evaluation.specs.Children.{claim_with}
 use Rattle.abb_search.specs.declared.growing.Growing.{Growing}
 use Rattle.abb_search.specs.Worth.{refutation_in, refutation_of, is_settled, is_settled_worth}

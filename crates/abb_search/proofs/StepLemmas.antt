@@ -12,7 +12,7 @@ use Rattle.node_evaluation.specs.tree_rules.Claim as claims
 use Rattle.node_evaluation.specs.tree_rules.Claim.{CostOver, ClaimPasses}
 use Rattle.std.proofs.lemmas.Int.{ints}
 use Rattle.node_evaluation.specs.tree_rules.Costs.{HasFallen}
-use Rattle.node_evaluation.specs.search_tree.Values.{IsPositiveCost}
+use Rattle.node_evaluation.specs.branch_tree.Values.{IsPositiveCost}
 use Rattle.node_evaluation.proofs.search_tree.Cited.{fraction_trans, preorder_has_all}
 use Rattle.node_evaluation.specs.pns_rules.Nodes.{Node}
 use Rattle.node_evaluation.specs.tree_rules.Accepted.{Tree}
@@ -20,7 +20,7 @@ use Rattle.node_evaluation.specs.node_pool.Pooled.{Pooled}
 use Rattle.node_evaluation.specs.search_tree.Cells.{Cell, IsLinked}
 use Rattle.node_evaluation.specs.search_tree.Preorder.{IsTreeOf, node_at}
 use Rattle.std.proofs.lemmas.List.{length-map}
-use Rattle.node_evaluation.specs.Evaluated.{PastPlaces, cost_in}
+use Rattle.node_evaluation.specs.branch_tree.Evaluated.{PastPlaces, cost_in}
 use Rattle.node_evaluation.specs.Looks.{cost_of}
 use Rattle.node_evaluation.specs.Children.{claim_with, IsBest}
 use Rattle.node_evaluation.proofs.Cited.{cost_is}

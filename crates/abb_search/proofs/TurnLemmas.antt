@@ -32,7 +32,7 @@ use Rattle.node_evaluation.specs.tree_rules.Stops.{IsPending}
 use Rattle.node_evaluation.specs.search_tree.Cells.{Cell, place_of, cell_at}
 use Rattle.node_evaluation.specs.search_tree.declared.growth.Fresh.{Fresh}
 use Rattle.node_evaluation.specs.search_tree.Growth.{AreOpenAfter, as_parent, EndsOpen}
-use Rattle.node_evaluation.specs.search_tree.Values.{IsPositive, IsPositiveCost}
+use Rattle.node_evaluation.specs.branch_tree.Values.{IsPositive, IsPositiveCost}
 use Rattle.node_evaluation.specs.tree_rules.Costs.{IsNoMore, HasFallen}
 use Rattle.node_evaluation.specs.search_tree.Kept.{IsKeptFor}
 use Rattle.node_evaluation.specs.search_tree.Turns.{CanBranch, IsLeastOpen, AreChildren, IsBranched}
@@ -43,11 +43,11 @@ use Rattle.node_evaluation.proofs.search_tree.Cited.{fraction_trans, branching_i
 use Rattle.node_evaluation.proofs.search_tree.Cited.{reached_is_no_dearer, reached_may_undercut}
 use Rattle.node_evaluation.proofs.search_tree.Cited.{reached_any}
 use Rattle.node_evaluation.proofs.search_tree.Cited.{growth_branches}
-use Rattle.node_evaluation.specs.declared.evaluator.Interval.{Interval}
+use Rattle.node_evaluation.specs.branch_tree.declared.evaluation.Interval.{Interval}
 use Rattle.node_evaluation.specs.declared.looks.Ready.{Ready}
 use Rattle.node_evaluation.specs.declared.children.StoppedAt.{StoppedAt}
 use Rattle.node_evaluation.specs.declared.children.Children.{Children}
-use Rattle.node_evaluation.specs.Evaluated.{PastPlaces, cost_over, cost_in}
+use Rattle.node_evaluation.specs.branch_tree.Evaluated.{PastPlaces, cost_over, cost_in}
 use Rattle.node_evaluation.specs.Looks.{has_bounded, cost_of, IsReady, IsSomeReady, IsStop}
 use Rattle.node_evaluation.specs.Children.{claim_with, IsBest, IsImproved, cells_of, values_of}
 use Rattle.node_evaluation.specs.Children.{AreReady, StopHolds, AreSeen}

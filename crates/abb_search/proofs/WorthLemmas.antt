@@ -14,13 +14,13 @@ use Rattle.node_evaluation.specs.exact_numbers.Number.{numerator, denominator}
 use Rattle.node_evaluation.specs.exact_numbers.MixedOrderLaws.{denominator_positive}
 use Rattle.node_evaluation.specs.tree_rules.Leaf.{IsRefuted, multiplier}
 use Rattle.node_evaluation.specs.tree_rules.Lean.{HasCheaper, IsNoDearer}
-use Rattle.node_evaluation.specs.search_tree.Values.{IsPositive, IsUnder}
-use Rattle.node_evaluation.specs.declared.evaluator.Interval.{Interval}
-use Rattle.node_evaluation.specs.declared.evaluator.Bound.{Bound}
+use Rattle.node_evaluation.specs.branch_tree.Values.{IsPositive, IsUnder}
+use Rattle.node_evaluation.specs.branch_tree.declared.evaluation.Interval.{Interval}
+use Rattle.node_evaluation.specs.branch_tree.declared.evaluation.Bound.{Bound}
 use Rattle.node_evaluation.specs.declared.looks.Worth.{Worth}
 use Rattle.node_evaluation.specs.declared.looks.Worth.TheVariants.{AtLeast, Settled, Refuted}
 use Rattle.node_evaluation.specs.declared.looks.Ready.{Ready}
-use Rattle.node_evaluation.specs.Evaluated.{PastPlaces, cost_over, IsWorthAs}
+use Rattle.node_evaluation.specs.branch_tree.Evaluated.{PastPlaces, cost_over, IsWorthAs}
 use Rattle.node_evaluation.specs.Looks.{IsWorthOf, IsReady}
 use Rattle.abb_search.specs.Worth.{interval_in, interval_of, refutation_in, refutation_of}
 use Rattle.abb_search.specs.Worth.{is_refuted, is_settled_worth, is_settled, is_put_off_worth}

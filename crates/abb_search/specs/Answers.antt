@@ -5,8 +5,8 @@ use Rattle.node_evaluation.specs.pgraph.View.{node_of}
 use Rattle.node_evaluation.specs.tree_rules.Claim as claims
 use Rattle.node_evaluation.specs.tree_rules.Accepted.{Tree}
 use Rattle.node_evaluation.specs.tree_rules.Costs.{HasFallen}
-use Rattle.node_evaluation.specs.search_tree.Values.{IsPositiveCost}
-use Rattle.node_evaluation.specs.Evaluated.{PastPlaces}
+use Rattle.node_evaluation.specs.branch_tree.Values.{IsPositiveCost}
+use Rattle.node_evaluation.specs.branch_tree.Evaluated.{PastPlaces}
 use Rattle.node_evaluation.specs.Looks.{cost_of}
 use Rattle.abb_search.specs.declared.outcome.Found.{Found}
 use Rattle.abb_search.specs.declared.outcome.Found.TheVariants.{Solved, Infeasible, Spent, Past}

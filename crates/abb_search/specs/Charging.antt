@@ -7,7 +7,8 @@ use Rattle.node_evaluation.specs.tree_rules.Known.{KnowsCharge}
 use Rattle.node_evaluation.specs.tree_rules.Claim.{claimed_cost}
 use Rattle.node_evaluation.specs.search_tree.Cells.{place_of, cell_at}
 use Rattle.node_evaluation.specs.declared.evaluator.Charged.{Charged}
-use Rattle.node_evaluation.specs.Evaluated.{PastPlaces, handed_in}
+use Rattle.node_evaluation.specs.branch_tree.Evaluated.{PastPlaces}
+use Rattle.node_evaluation.specs.Proofs.{handed_in}
 use Rattle.node_evaluation.specs.Children.{claim_with}
 use Rattle.abb_search.specs.declared.growing.Growing.{Growing}
 use Rattle.abb_search.specs.Growing.{IsGoing}

@@ -8,7 +8,7 @@ use Rattle.node_evaluation.specs.tree_rules.Leaf.{IsUntried}
 use Rattle.node_evaluation.specs.tree_rules.Accepted.{Tree}
 use Rattle.node_evaluation.specs.tree_rules.Stops.{IsSpent, IsPast}
 use Rattle.node_evaluation.specs.tree_rules.Proved.{IsProved, IsStopped, IsBelowLimit}
-use Rattle.node_evaluation.specs.Evaluated.{PastPlaces}
+use Rattle.node_evaluation.specs.branch_tree.Evaluated.{PastPlaces}
 use Rattle.node_evaluation.specs.Children.{claim_with}
 use Rattle.node_evaluation.specs.tree_rules.Past.{IsPastAt}
 use Rattle.abb_search.specs.declared.outcome.Found.{Found}

@@ -24,13 +24,13 @@ use Rattle.slab.specs.Slab.{Slab, get, Updates}
 use Rattle.node_evaluation.specs.search_tree.declared.growth.Fresh.{Fresh}
 use Rattle.node_evaluation.specs.declared.choice.Choice.{Choice}
 use Rattle.node_evaluation.specs.declared.choice.Choice.TheVariants as choices
-use Rattle.node_evaluation.specs.declared.evaluator.Interval.{Interval}
-use Rattle.node_evaluation.specs.declared.evaluator.PastStop.{PastStop}
+use Rattle.node_evaluation.specs.branch_tree.declared.evaluation.Interval.{Interval}
+use Rattle.node_evaluation.specs.branch_tree.declared.evaluation.PastStop.{PastStop}
 use Rattle.node_evaluation.specs.declared.looks.Ready.{Ready}
 use Rattle.node_evaluation.specs.declared.looks.Looked.{Looked}
 use Rattle.node_evaluation.specs.declared.children.StoppedAt.{StoppedAt}
 use Rattle.node_evaluation.specs.declared.children.Children.{Children}
-use Rattle.node_evaluation.specs.Evaluated.{PastPlaces, cost_over}
+use Rattle.node_evaluation.specs.branch_tree.Evaluated.{PastPlaces, cost_over}
 use Rattle.node_evaluation.specs.Looks.{has_bounded, KnowsCell, cost_of, IsStop, IsLooked}
 use Rattle.node_evaluation.specs.Children.{claim_with, cells_of, values_of, AreSeen}
 use Rattle.abb_search.specs.Worth.{interval_of, is_refuted, is_settled}

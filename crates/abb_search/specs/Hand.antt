@@ -9,7 +9,7 @@ use Rattle.node_evaluation.specs.search_tree.Growth.{EndsOpen}
 use Rattle.node_evaluation.specs.search_tree.Cells.{Cell, place_of, cell_at}
 use Rattle.node_evaluation.specs.search_tree.declared.growth.Fresh.{Fresh}
 use Rattle.node_evaluation.specs.declared.looks.Ready.{Ready}
-use Rattle.node_evaluation.specs.Evaluated.{PastPlaces}
+use Rattle.node_evaluation.specs.branch_tree.Evaluated.{PastPlaces}
 use Rattle.node_evaluation.specs.Looks.{IsSomeReady}
 
 -- leaf j has a value, and under its key is stored what its branching or shutting takes

@@ -9,7 +9,7 @@ use Rattle.node_evaluation.specs.exact_numbers.Number.{numerator, denominator}
 use Rattle.node_evaluation.specs.tree_rules.Claim.{Network, CostOver, claimed_cost, IsAtMost}
 use Rattle.node_evaluation.specs.tree_rules.Costs.{IsNoMore}
 use Rattle.node_evaluation.specs.Choices.{option_count}
-use Rattle.node_evaluation.specs.Evaluated.{PastPlaces, cost_over, cost_in}
+use Rattle.node_evaluation.specs.branch_tree.Evaluated.{PastPlaces, cost_over, cost_in}
 use Rattle.node_evaluation.specs.Looks.{cost_of}
 use Rattle.node_evaluation.specs.Children.{claim_with}
 use Rattle.abb_search.specs.declared.growing.Growing.{Growing}

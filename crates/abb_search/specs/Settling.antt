@@ -6,7 +6,7 @@ use Rattle.pns_io.specs.problem_rules.Problem.{Problem}
 use Rattle.node_evaluation.specs.tree_rules.Tree.{leaf}
 use Rattle.node_evaluation.specs.search_tree.Growth.{EndsOpen}
 use Rattle.node_evaluation.specs.search_tree.Cells.{cell_at}
-use Rattle.node_evaluation.specs.Evaluated.{PastPlaces}
+use Rattle.node_evaluation.specs.branch_tree.Evaluated.{PastPlaces}
 use Rattle.abb_search.specs.declared.growing.Growing.{Growing}
 use Rattle.abb_search.specs.declared.growing.StoppedLeaf.{StoppedLeaf}
 use Rattle.abb_search.specs.Worth.{is_settled, is_put_off}

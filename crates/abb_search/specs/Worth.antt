@@ -1,6 +1,6 @@
 -- What is known of the worth of an open leaf, as it is stored.
 use Rattle.std.specs.Prelude.{ℤ, Bool, true, false, List, Option, Some, None, is_some}
-use Rattle.node_evaluation.specs.declared.evaluator.Interval.{Interval}
+use Rattle.node_evaluation.specs.branch_tree.declared.evaluation.Interval.{Interval}
 use Rattle.node_evaluation.specs.declared.looks.Worth.{Worth}
 use Rattle.node_evaluation.specs.declared.looks.Worth.TheVariants.{AtLeast, Settled, Refuted}
 use Rattle.node_evaluation.specs.declared.looks.Ready.{Ready}

@@ -17,7 +17,7 @@ ghost use Rattle.node_evaluation.specs.search_tree.Growth.{as_shut};
 ghost use Rattle.node_evaluation.specs.neutral_extension.Candidates.{AreMakersOf};
 ghost use Rattle.node_evaluation.specs.tree_rules.Costs.{IsNoMore};
 ghost use Rattle.node_evaluation.specs.Children.{AreSolvedBy};
-ghost use Rattle.node_evaluation.specs.Evaluated.{cost_over, cost_in};
+ghost use Rattle.node_evaluation.specs.branch_tree.Evaluated.{cost_over, cost_in};
 ghost use Rattle.abb_search.specs.Worth.{interval_in, interval_of};
 ghost use Rattle.abb_search.specs.Shutting.{IsSameButLeaves};
 ghost use Rattle.abb_search.specs.Growing.{IsBranching, IsSameButRoom, IsSameButHand, HasInterval};

@@ -1,5 +1,5 @@
 -- The multipliers after the scale are numbers of the list.
-use Rattle.std.proofs.Common.{◌≡◌, ℕ, suc, ◌<◌, List, [], ◌∷◌, ℤ, length, sym, subst, arith}
+use Rattle.std.proofs.Common.{◌≡◌, suc, List, [], ◌∷◌, ℤ, subst, arith}
 use Rattle.tree_rules.specs.integer_laws.Range.{AllInRange}
 use Rattle.tree_rules.specs.Leaf.{Scaled}
 use Rattle.branch_tree.specs.Scaled.{scaled_of}

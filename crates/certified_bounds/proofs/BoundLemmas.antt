@@ -14,7 +14,8 @@ use Rattle.scaled_flows.specs.flow_rules.Steps.{AreInRange, last_from}
 use Rattle.scaled_flows.specs.tree_rules.Claim.{Network, CostOver}
 use Rattle.scaled_flows.specs.tree_rules.Leaf.{IsBounded, IsOneEach, IsFormed, multiplier}
 use Rattle.scaled_flows.specs.LeastCost.{IsLeastCost}
-use Rattle.certified_bounds.specs.Certified.{cost_over}
+use Rattle.branch_tree.specs.Values.{IsValueOf}
+use Rattle.branch_tree.specs.Evaluated.{cost_over}
 use Rattle.certified_bounds.proofs.FractionLemmas.{no_more_of_same, through}
 
 pub some_weaker : {T : Type 0} (o : Option T) (P Q : T → Type 0) → ((x : T) → P x → Q x)
@@ -85,6 +86,11 @@ no_more_than_least duality p n scale ys low a b pl h k =
     let r = k.reached in
     through low.cost low.d (relaxed_cost (net_of p) n r.sizes r.d) r.d a b pl r.relaxed.positive
     k.positive (bounded_under duality p n scale ys low pl h r.sizes r.d r.relaxed) r.at_most
+
+-- the least cost is a value
+pub value_is : (p : Problem) (n : Node) (value : Mixed)
+    → IsLeastCost p n (numerator value) (denominator value) → IsValueOf p n (cost_over value)
+value_is p n value h = record { positive = h.positive; under = h.under; reached = h.reached }
 
 abbrev pub network_of : List ℕ → ℤ → ℤ → List ℤ → Network
 network_of units d cost sizes = record { units = units; sizes = sizes; d = d; cost = cost }

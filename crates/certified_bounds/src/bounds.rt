@@ -9,14 +9,15 @@ ghost use Rattle.scaled_flows.specs.Divisors.{AreDivisors};
 ghost use Rattle.scaled_flows.specs.LeastCost.{IsLeastCost};
 ghost use Rattle.scaled_flows.specs.tree_rules.Leaf.{IsBounded};
 ghost use Rattle.scaled_flows.specs.tree_rules.Lean.{HasCheaper};
-ghost use Rattle.certified_bounds.specs.Certified.{IsBetween, IsCertified, IsFirstBound};
+ghost use Rattle.branch_tree.specs.Evaluated.{IsFirstLook};
+ghost use Rattle.certified_bounds.specs.Certified.{IsBetween, IsCertified};
 
-use crate::certified::{Between, Certified, FirstBound};
+use crate::between::Between;
 use crate::flows::flows;
 use crate::lows::{first_low, least, low_to, proving};
 use crate::proposals::{Proposals, Proposed};
 use crate::refutations::{first_refuted, refuted};
-use branch_tree::{Network, Scaled};
+use branch_tree::{Evaluation, FirstLook, Network, Scaled};
 use scaled_flows::{Mixed, Node, Scales, Site, cost_of_sizes, least_value};
 use std::alloc::{AllocError, Global};
 use std::marker::Model;
@@ -68,27 +69,27 @@ impl CertifiedBounds {
         alloc: Global,
         site: &Site<'_>,
         node: Node,
-    ) -> Result<FirstBound, AllocError>
+    ) -> Result<FirstLook, AllocError>
         requires sound { IsSound (shape_of site.now) (node_of node) }
         ensures same { self.new ≡ self.old }
-        ensures bounded { IfOk result (IsFirstBound site.now (node_of node)) }
+        ensures bounded { IfOk result (IsFirstLook site.now (node_of node)) }
     {
         match self.proposals.propose_low(&node) {
-            Proposed::Nothing => Ok(FirstBound::Nothing),
+            Proposed::Nothing => Ok(FirstLook::Nothing),
             Proposed::Row => first_refuted(alloc, site, &node, &mut self.proposals),
             Proposed::Optimum => first_low(alloc, site, &node, &mut self.proposals),
         }
     }
 
-    /// What the node is worth; `decided` says whether all is decided there. It takes no memory but
-    /// for what it returns, and `Err` comes if that is refused.
+    /// What the node is worth, if the checks pass; `decided` says whether all is decided there. It
+    /// takes no memory but for what it returns, and `Err` comes if that is refused.
     pub fn look(
         &mut self,
         alloc: Global,
         site: &Site<'_>,
         node: Node,
         decided: bool,
-    ) -> Result<Certified, AllocError>
+    ) -> Result<Option<Evaluation>, AllocError>
         requires own { AreDivisors (net_of site.now) self.old }
         requires sound { IsSound (shape_of site.now) (node_of node) }
         requires split { decided ≡ true → IsDecided (shape_of site.now) (node_of node) }
@@ -96,8 +97,8 @@ impl CertifiedBounds {
         ensures certified { IfOk result (IsCertified site.now (node_of node) decided) }
     {
         match self.look_once(alloc, site, &node, decided, decided)? {
-            Certified::Nothing if !decided => { self.look_once(alloc, site, &node, decided, true) }
-            told => Ok(told),
+            None if !decided => self.look_once(alloc, site, &node, decided, true),
+            found => Ok(found),
         }
     }
 
@@ -109,7 +110,7 @@ impl CertifiedBounds {
         node: &Node,
         decided: bool,
         anew: bool,
-    ) -> Result<Certified, AllocError>
+    ) -> Result<Option<Evaluation>, AllocError>
         requires own { AreDivisors (net_of site.now) self.old }
         requires sound { IsSound (shape_of site.now) (node_of node.now) }
         requires split { decided ≡ true → IsDecided (shape_of site.now) (node_of node.now) }
@@ -128,7 +129,7 @@ impl CertifiedBounds {
         site: &Site<'_>,
         node: Node,
         basis: &[u16],
-    ) -> Result<Certified, AllocError>
+    ) -> Result<Option<Evaluation>, AllocError>
         requires own { AreDivisors (net_of site.now) self.old }
         requires sound { IsSound (shape_of site.now) (node_of node) }
         ensures same { self.new ≡ self.old }
@@ -146,7 +147,7 @@ impl CertifiedBounds {
         node: &Node,
         decided: bool,
         proposed: Proposed,
-    ) -> Result<Certified, AllocError>
+    ) -> Result<Option<Evaluation>, AllocError>
         requires own { AreDivisors (net_of site.now) self.old }
         requires sound { IsSound (shape_of site.now) (node_of node.now) }
         requires split { decided ≡ true → IsDecided (shape_of site.now) (node_of node.now) }
@@ -154,11 +155,11 @@ impl CertifiedBounds {
         ensures certified { IfOk result (IsCertified site.now (node_of node.now) decided) }
     {
         match proposed {
-            Proposed::Nothing => Ok(Certified::Nothing),
+            Proposed::Nothing => Ok(None),
             Proposed::Row => refuted(alloc, site, node, &mut self.proposals),
             Proposed::Optimum => {
                 let Some(value) = self.value(site, node) else {
-                    return Ok(Certified::Nothing);
+                    return Ok(None);
                 };
                 self.proposals.keep_whole_sizes();
                 if decided {

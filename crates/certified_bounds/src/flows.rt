@@ -5,13 +5,13 @@ ghost use Rattle.scaled_flows.specs.pns_rules.Ends.{IsSound, IsDecided};
 ghost use Rattle.scaled_flows.specs.pgraph.View.{node_of};
 ghost use Rattle.scaled_flows.specs.exact_numbers.Number.{numerator, denominator};
 ghost use Rattle.scaled_flows.specs.LeastCost.{IsLeastCost};
-ghost use Rattle.certified_bounds.specs.Certified.{IsCertified, IsNetworkAt};
+ghost use Rattle.branch_tree.specs.Evaluated.{IsNetworkOf};
+ghost use Rattle.certified_bounds.specs.Certified.{IsCertified};
 
-use crate::certified::{Certified, LeastBound};
 use crate::judged::cost_of_network;
 use crate::lows::exact;
 use crate::proposals::Proposals;
-use branch_tree::Network;
+use branch_tree::{Bound, Evaluation, Network};
 use scaled_flows::{Mixed, Node, Site};
 use std::alloc::{AllocError, Global};
 
@@ -25,7 +25,7 @@ fn network_at(
 ) -> Result<Option<Network>, AllocError>
     requires sound { IsSound (shape_of site.now) (node_of node.now) }
     requires decided { IsDecided (shape_of site.now) (node_of node.now) }
-    ensures found { IfOk result (λ found. IfSome found (IsNetworkAt site.now value)) }
+    ensures found { IfOk result (λ found. IfSome found (IsNetworkOf site.now value)) }
     ensures units { IfOk result (λ found. IfSome found (λ w. w.units ≡ node.now.inside)) }
 {
     let Some(d) = proposals.write_sizes() else {
@@ -50,22 +50,23 @@ pub(crate) fn flows(
     node: &Node,
     proposals: &mut Proposals,
     value: Mixed,
-) -> Result<Certified, AllocError>
+) -> Result<Option<Evaluation>, AllocError>
     requires sound { IsSound (shape_of site.now) (node_of node.now) }
     requires decided { IsDecided (shape_of site.now) (node_of node.now) }
     requires value { IsLeastCost site.now (node_of node.now) (numerator value) (denominator value) }
     ensures { IfOk result (IsCertified site.now (node_of node.now) true) }
 {
     let Some(scaled) = exact(alloc, site, node, proposals, value)? else {
-        return Ok(Certified::Nothing);
+        return Ok(None);
     };
-    let bound = LeastBound {
+    let bound = Bound {
         value,
         low: value,
         scaled,
+        interval: None,
     };
     match network_at(alloc, site, node, proposals, value)? {
-        Some(network) => Ok(Certified::Flows(bound, network)),
-        None => Ok(Certified::Nothing),
+        Some(network) => Ok(Some(Evaluation::Flows(bound, network))),
+        None => Ok(None),
     }
 }

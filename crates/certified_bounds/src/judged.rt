@@ -11,7 +11,7 @@ ghost use Rattle.scaled_flows.specs.flow_rules.Net.{net_of};
 ghost use Rattle.scaled_flows.specs.flow_rules.Relaxed.{rows};
 ghost use Rattle.scaled_flows.specs.tree_rules.Claim.{IsFeasible};
 ghost use Rattle.scaled_flows.specs.tree_rules.Leaf.{IsBounded, IsRefuted};
-ghost use Rattle.certified_bounds.specs.Certified.{cost_over};
+ghost use Rattle.branch_tree.specs.Evaluated.{cost_over};
 
 use scaled_flows::{
     Graph, Mixed, Node, Site, bound_of, cost_of, feasible, refutes, sets_of, sums_are_last,

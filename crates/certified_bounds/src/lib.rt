@@ -11,13 +11,13 @@
 //! the least cost lies. Multipliers of a bound are exact if their scale is short, and else rounded:
 //! the bound is then a little below the least cost, and still proved.
 //!
-//! Modules: `certified` the answers; `bounds` the calls; `judged` the checks; `lows`, `flows` and
+//! Modules: `between` an answer; `bounds` the calls; `judged` the checks; `lows`, `flows` and
 //! `refutations` judged proposals; `proposals` guess and solution, of which nothing is promised;
 //! `multipliers`, `noted`, `rounding`, `number_list` numbers.
 #![tactic(auto)]
 
+mod between;
 mod bounds;
-mod certified;
 mod flows;
 mod judged;
 mod lows;
@@ -32,5 +32,5 @@ pub use basis_guess::{
     Bound, Charge, ChargeGuess, Facts, Proposal, Range, Ready, Steps, Use, User, charge_of,
     covers_node, is_cover,
 };
+pub use between::Between;
 pub use bounds::CertifiedBounds;
-pub use certified::{Between, Certified, FirstBound, LeastBound, LowBound};

@@ -1,5 +1,5 @@
 //! What the multipliers that are proposed prove.
-ghost use Rattle.std.specs.Prelude.{◌≡◌, ◌<◌, ℕ, true, false, Some, IfOk, IfSome};
+ghost use Rattle.std.specs.Prelude.{◌≡◌, ◌<◌, ℕ, true, false, Some, None, IfOk, IfSome};
 ghost use Rattle.scaled_flows.specs.integer_laws.Range.{InRange};
 ghost use Rattle.scaled_flows.specs.number_sets.Sets.{has};
 ghost use Rattle.scaled_flows.specs.pns_rules.Shape.{shape_of};
@@ -8,13 +8,13 @@ ghost use Rattle.scaled_flows.specs.exact_numbers.Number.{numerator, denominator
 ghost use Rattle.scaled_flows.specs.LeastCost.{IsLeastCost};
 ghost use Rattle.scaled_flows.specs.tree_rules.Leaf.{IsBounded};
 ghost use Rattle.scaled_flows.specs.tree_rules.Lean.{HasCheaper};
-ghost use Rattle.certified_bounds.specs.Certified.{cost_over, IsBetween, IsCertified};
-ghost use Rattle.certified_bounds.specs.Certified.{IsFirstBound};
+ghost use Rattle.branch_tree.specs.Evaluated.{cost_over, IsFirstLook};
+ghost use Rattle.certified_bounds.specs.Certified.{IsBetween, IsCertified};
 
-use crate::certified::{Between, Certified, FirstBound, LeastBound, LowBound};
+use crate::between::Between;
 use crate::judged::{low_of, reaches};
 use crate::proposals::{Proposals, Way};
-use branch_tree::Scaled;
+use branch_tree::{Bound, Evaluation, FirstLook, LowerBound, Scaled};
 use scaled_flows::{Mixed, Node, Site, relaxed_duality};
 use std::alloc::{AllocError, Global};
 
@@ -67,7 +67,7 @@ fn bound_with(
     value: Mixed,
     low: Low,
     proposals: &Proposals,
-) -> Result<LeastBound, AllocError>
+) -> Result<Bound, AllocError>
     requires { InRange low.scale }
     ensures { IfOk result
         (λ b. b ≡ record {
@@ -75,14 +75,16 @@ fn bound_with(
           low = low.low;
           scaled =
               record { d = low.scale; ys = proposals.now };
+          interval = None;
         }) }
 {
     proposals.are_in_range();
     let scaled = Scaled::of(alloc, low.scale, proposals.list())?;
-    Ok(LeastBound {
+    Ok(Bound {
         value,
         low: low.low,
         scaled,
+        interval: None,
     })
 }
 
@@ -93,17 +95,17 @@ pub(crate) fn least(
     node: &Node,
     proposals: &mut Proposals,
     value: Mixed,
-) -> Result<Certified, AllocError>
+) -> Result<Option<Evaluation>, AllocError>
     requires known { (u : ℕ) → has node.now.inside u ≡ true → u < (shape_of site.now).units }
     requires value { IsLeastCost site.now (node_of node.now) (numerator value) (denominator value) }
     ensures { IfOk result (IsCertified site.now (node_of node.now) false) }
 {
     relaxed_duality();
     let Some(low) = short_low(site, node, proposals) else {
-        return Ok(Certified::Nothing);
+        return Ok(None);
     };
     let bound = bound_with(alloc, value, low, proposals)?;
-    Ok(Certified::Least(bound))
+    Ok(Some(Evaluation::Least(bound)))
 }
 
 /// After `Optimum`: the multipliers that are written in this way, if they prove the goal.
@@ -205,7 +207,7 @@ fn low_with(
     low: Low,
     proposals: &Proposals,
     basis: Vec<u16>,
-) -> Result<LowBound, AllocError>
+) -> Result<LowerBound, AllocError>
     requires { InRange low.scale }
     ensures { IfOk result
         (λ b. b ≡ record {
@@ -217,7 +219,7 @@ fn low_with(
 {
     proposals.are_in_range();
     let scaled = Scaled::of(alloc, low.scale, proposals.list())?;
-    Ok(LowBound {
+    Ok(LowerBound {
         low: low.low,
         scaled,
         basis,
@@ -230,17 +232,17 @@ pub(crate) fn first_low(
     site: &Site<'_>,
     node: &Node,
     proposals: &mut Proposals,
-) -> Result<FirstBound, AllocError>
+) -> Result<FirstLook, AllocError>
     requires known { (u : ℕ) → has node.now.inside u ≡ true → u < (shape_of site.now).units }
-    ensures { IfOk result (IsFirstBound site.now (node_of node.now)) }
+    ensures { IfOk result (IsFirstLook site.now (node_of node.now)) }
 {
     relaxed_duality();
     let Some(low) = quick_low(site, node, proposals) else {
-        return Ok(FirstBound::Nothing);
+        return Ok(FirstLook::Nothing);
     };
     let basis = proposals.basis(alloc)?;
     let bound = low_with(alloc, low, proposals, basis)?;
-    Ok(FirstBound::AtLeast(bound))
+    Ok(FirstLook::AtLeast(bound))
 }
 
 /// After `propose_sizes` or `propose_inside`: what some flows cost, and what rounded multipliers

@@ -4,12 +4,12 @@ ghost use Rattle.scaled_flows.specs.number_sets.Sets.{has};
 ghost use Rattle.scaled_flows.specs.pns_rules.Shape.{shape_of};
 ghost use Rattle.scaled_flows.specs.pgraph.View.{node_of};
 ghost use Rattle.scaled_flows.specs.tree_rules.Leaf.{IsRefuted};
-ghost use Rattle.certified_bounds.specs.Certified.{IsCertified, IsFirstBound};
+ghost use Rattle.branch_tree.specs.Evaluated.{IsFirstLook};
+ghost use Rattle.certified_bounds.specs.Certified.{IsCertified};
 
-use crate::certified::{Certified, FirstBound};
 use crate::judged::is_refuted;
 use crate::proposals::Proposals;
-use branch_tree::Multipliers;
+use branch_tree::{Evaluation, FirstLook, Multipliers};
 use scaled_flows::{Node, Site};
 use std::alloc::{AllocError, Global};
 
@@ -47,13 +47,13 @@ pub(crate) fn refuted(
     site: &Site<'_>,
     node: &Node,
     proposals: &mut Proposals,
-) -> Result<Certified, AllocError>
+) -> Result<Option<Evaluation>, AllocError>
     requires known { (u : ℕ) → has node.now.inside u ≡ true → u < (shape_of site.now).units }
     ensures { (decided : Bool) → IfOk result (IsCertified site.now (node_of node.now) decided) }
 {
     match refuting(alloc, site, node, proposals)? {
-        Some(ys) => Ok(Certified::Refuted(ys)),
-        None => Ok(Certified::Nothing),
+        Some(ys) => Ok(Some(Evaluation::Refuted(ys))),
+        None => Ok(None),
     }
 }
 
@@ -63,12 +63,12 @@ pub(crate) fn first_refuted(
     site: &Site<'_>,
     node: &Node,
     proposals: &mut Proposals,
-) -> Result<FirstBound, AllocError>
+) -> Result<FirstLook, AllocError>
     requires known { (u : ℕ) → has node.now.inside u ≡ true → u < (shape_of site.now).units }
-    ensures { IfOk result (IsFirstBound site.now (node_of node.now)) }
+    ensures { IfOk result (IsFirstLook site.now (node_of node.now)) }
 {
     match refuting(alloc, site, node, proposals)? {
-        Some(ys) => Ok(FirstBound::Refuted(ys)),
-        None => Ok(FirstBound::Nothing),
+        Some(ys) => Ok(FirstLook::Refuted(ys)),
+        None => Ok(FirstLook::Nothing),
     }
 }

@@ -17,7 +17,7 @@ use Rattle.dual_simplex.specs.flow_rules.Relaxed.{bound}
 use Rattle.dual_simplex.specs.flow_rules.Laws.{WeakDuality}
 use Rattle.node_evaluation.specs.tree_rules.Claim.{Network, size_in}
 use Rattle.node_evaluation.specs.tree_rules.Leaf.{IsBounded}
-use Rattle.certified_bounds.specs.Certified.{cost_over, IsNetworkAt}
+use Rattle.node_evaluation.specs.branch_tree.Evaluated.{cost_over, IsNetworkOf}
 use Rattle.node_evaluation.specs.tree_rules.LeastFlows.{decided, rows_of, ProveCost}
 use Rattle.flow_evaluator.specs.Laws.{ProvedIsLeast}
 use Rattle.flow_evaluator.specs.Answers.{IsLeastFor}
@@ -45,7 +45,7 @@ reached b c m n q s pm pq least costs dual =
 
 -- the multipliers of a bound that is the cost of the network prove it
 proves : WeakDuality → (p : Problem) → IsValid p
-    → (w : Network) (value : Mixed) (d : ℤ) (ys : List ℤ) → IsNetworkAt p value w
+    → (w : Network) (value : Mixed) (d : ℤ) (ys : List ℤ) → IsNetworkOf p value w
     → IsBounded p (Some (cost_over value)) (decided p w.units) d ys → ProveCost p w d ys
 proves duality p valid w value d ys at h =
     let n = decided p w.units in
@@ -69,7 +69,7 @@ proves duality p valid w value d ys at h =
     }
 
 own_least : WeakDuality → ProvedIsLeast → (p : Problem) → IsValid p
-    → (w : Network) (value : Mixed) (d : ℤ) (ys : List ℤ) → IsNetworkAt p value w
+    → (w : Network) (value : Mixed) (d : ℤ) (ys : List ℤ) → IsNetworkOf p value w
     → IsBounded p (Some (cost_over value)) (decided p w.units) d ys → InRange d
     → IsLeastFor p w.units w d ys
 own_least duality law p valid w value d ys at h range = record {
@@ -84,7 +84,7 @@ own_least duality law p valid w value d ys at h range = record {
 pub least_for : WeakDuality → ProvedIsLeast → (p : Problem) → IsValid p
     → (us : List ℕ) (w : Network) → IsSet 128 us → IsSet 128 w.units
     → ((u : ℕ) → has us u ≡ has w.units u) → (value : Mixed) (d : ℤ) (ys : List ℤ)
-    → IsNetworkAt p value w → IsBounded p (Some (cost_over value)) (decided p us) d ys → InRange d
+    → IsNetworkOf p value w → IsBounded p (Some (cost_over value)) (decided p us) d ys → InRange d
     → IsLeastFor p us w d ys
 least_for duality law p valid us w own other same value d ys at h range =
     let is : us ≡ w.units = same_sets us w.units own.rising other.rising same in

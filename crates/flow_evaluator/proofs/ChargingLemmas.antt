@@ -20,7 +20,7 @@ use Rattle.dual_simplex.specs.pgraph.Kept.{IsKept, AreKept}
 use Rattle.node_evaluation.specs.tree_rules.Claim.{CostOver, IsAtLeast}
 use Rattle.node_evaluation.specs.tree_rules.Leaf.{Scaled, IsOneEach}
 use Rattle.node_evaluation.specs.tree_rules.Known.{KnowsCover, IsUnit}
-use Rattle.node_evaluation.specs.Evaluated.{IsChargeOf}
+use Rattle.node_evaluation.specs.Proofs.{IsChargeOf}
 use Rattle.flow_evaluator.specs.Charging.{IsFit, AreFit, IsOwnCharge, ReachesWith}
 
 -- ---- one cover

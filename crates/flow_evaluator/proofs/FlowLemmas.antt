@@ -30,9 +30,10 @@ use Rattle.node_evaluation.specs.tree_rules.Claim.{Network, CostOver}
 use Rattle.dual_simplex.specs.Bench.{Bench, IsLeastOf, AreFlowsOf}
 use Rattle.dual_simplex.specs.Laws.{ScaleIsPositive, BoundIsReached, BoundIsLeast}
 use Rattle.dual_simplex.specs.FlowLaws.{UnitsAreInside, SplitFlowsAreFlows, SplitFlowsAreLeast}
-use Rattle.node_evaluation.specs.search_tree.Values.{IsPositive}
+use Rattle.node_evaluation.specs.branch_tree.Values.{IsPositive}
 use Rattle.node_evaluation.proofs.search_tree.Cited.{leaf_fallen}
-use Rattle.node_evaluation.specs.Evaluated.{cost_over, IsBoundOf, IsNetworkOf, IsWorth}
+use Rattle.node_evaluation.specs.branch_tree.Evaluated.{cost_over, IsBoundOf, IsNetworkOf}
+use Rattle.node_evaluation.specs.Proofs.{IsWorth}
 use Rattle.node_evaluation.proofs.Cited.{under_value}
 use Rattle.node_evaluation.specs.tree_rules.Past.{IsPastAt}
 use Rattle.flow_evaluator.proofs.ValueLemmas.{kept_le, kept_same, kept_over}
@@ -181,8 +182,7 @@ module _ (p : Problem) (valid : IsValid p) (node : Node) (b : Bench)
       cost_is = sym total_is;
     };
     positive = flows.positive;
-    no_more = no_less _ _ equal;
-    no_less = no_more _ _ equal;
+    costs = sym equal;
   }
     where
       n : rules.Node

@@ -12,11 +12,12 @@ use Rattle.dual_simplex.specs.pns_rules.Shape.{Shape, shape_of}
 use Rattle.dual_simplex.specs.pns_rules.Structure.{IsBetween, InFamily}
 use Rattle.dual_simplex.specs.pns_rules.Nodes.{Node}
 use Rattle.node_evaluation.specs.tree_rules.Claim.{Network}
-use Rattle.certified_bounds.specs.declared.certified.LeastBound.{LeastBound}
-use Rattle.certified_bounds.specs.declared.certified.Certified.TheVariants.{Flows}
-use Rattle.certified_bounds.specs.Certified.{IsCertified}
+use Rattle.node_evaluation.specs.branch_tree.declared.evaluation.Bound.{Bound}
+use Rattle.node_evaluation.specs.branch_tree.declared.evaluation.Evaluation.TheVariants.{Flows}
+use Rattle.node_evaluation.specs.branch_tree.Evaluated.{IsEvaluated}
+use Rattle.certified_bounds.specs.Certified.{IsNowhere}
 use Rattle.node_evaluation.specs.tree_rules.LeastFlows.{decided}
-use Rattle.node_evaluation.specs.Evaluated.{IsAtHand}
+use Rattle.node_evaluation.specs.Proofs.{IsAtHand}
 
 -- the units that are taken in, and those of a set that are not left out
 module _ (running all outside inside free met r : List ℕ) (ef : free ≡ minus all outside)
@@ -67,14 +68,14 @@ between_of g inside in_use spared outside left e within (Some s) h = record {
 }
 
 -- least flows of a structure of the node's family are a trial network
-pub at_hand : (p : Problem) (n : Node) (us : List ℕ) (b : LeastBound) (w : Network)
+pub at_hand : (p : Problem) (n : Node) (us : List ℕ) (b : Bound) (w : Network)
     → InFamily (shape_of p) n.inside n.outside (has us)
-    → IsCertified p (decided p us) true (Flows b w) → IsAtHand p n w
+    → IsEvaluated IsNowhere p (decided p us) true (Flows b w) → IsAtHand p n w
 at_hand p n us b w f h = record {
-  feasible = h.2.feasible;
-  positive = h.2.positive;
-  inside = λ u i. sym (h.4 u) ∙ f.between.contains u i;
-  outside = λ u o. false_from_ne_true (has w.units u) (λ i. f.between.avoids u (h.4 u ∙ i) o);
+  feasible = h.3.feasible;
+  positive = h.3.positive;
+  inside = λ u i. sym (h.5 u) ∙ f.between.contains u i;
+  outside = λ u o. false_from_ne_true (has w.units u) (λ i. f.between.avoids u (h.5 u ∙ i) o);
 }
 
 -- a unit more is left out

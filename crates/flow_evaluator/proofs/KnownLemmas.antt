@@ -21,11 +21,12 @@ use Rattle.dual_simplex.specs.Bench.{Bench}
 use Rattle.dual_simplex.specs.flow_rules.Named.{nonbasic_named}
 use Rattle.dual_simplex.specs.ProgramNames.{IsColumnOf, IsRowOf, IsPlaceOf, NonbasicAreOfProgram}
 use Rattle.node_evaluation.specs.tree_rules.Claim.{CostOver}
-use Rattle.node_evaluation.specs.Evaluated.{IsEvaluated, IsProof}
+use Rattle.node_evaluation.specs.branch_tree.Evaluated.{IsEvaluated}
+use Rattle.node_evaluation.specs.Proofs.{IsProof}
 use Rattle.node_evaluation.specs.declared.evaluator.Proof.{Proof}
 use Rattle.node_evaluation.specs.declared.evaluator.Proof.TheVariants as proofs
-use Rattle.node_evaluation.specs.declared.evaluator.Evaluation.{Evaluation}
-use Rattle.node_evaluation.specs.declared.evaluator.Evaluation.TheVariants.{Stopped}
+use Rattle.node_evaluation.specs.branch_tree.declared.evaluation.Evaluation.{Evaluation}
+use Rattle.node_evaluation.specs.branch_tree.declared.evaluation.Evaluation.TheVariants.{Stopped}
 use Rattle.node_evaluation.specs.tree_rules.Past.{IsPastAt}
 
 module _ (p : Problem) (n : Node) where

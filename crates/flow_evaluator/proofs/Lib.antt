@@ -9,8 +9,8 @@ pub mod LeastLemmas
 pub mod NodeLemmas
 pub mod RoomLemmas
 pub mod StructureKnownLemmas
-pub mod ToldLemmas
 pub mod ValueLemmas
+pub mod WithoutPathLemmas
 pub use Rattle.dual_simplex.proofs.exact_numbers as exact_numbers
 pub use Rattle.dual_simplex.proofs.pns_problem as pns_problem
 pub use Rattle.dual_simplex.proofs.flow_program as flow_program

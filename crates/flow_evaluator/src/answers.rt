@@ -11,9 +11,10 @@ ghost use Rattle.dual_simplex.specs.flow_rules.Relaxed.{bound};
 ghost use Rattle.node_evaluation.specs.tree_rules.Leaf.{IsFormed, multiplier};
 ghost use Rattle.dual_simplex.specs.Bench.{IsLeastOf, IsNoneOf};
 ghost use Rattle.node_evaluation.specs.tree_rules.Claim.{CostOver};
-ghost use Rattle.node_evaluation.specs.search_tree.Values.{IsPositive};
-ghost use Rattle.node_evaluation.specs.Evaluated.{IsEvaluated, IsWorth, IsProof};
-ghost use Rattle.node_evaluation.specs.declared.evaluator.Evaluation.TheVariants.{Stopped};
+ghost use Rattle.node_evaluation.specs.branch_tree.Values.{IsPositive};
+ghost use Rattle.node_evaluation.specs.branch_tree.Evaluated.{IsEvaluated};
+ghost use Rattle.node_evaluation.specs.Proofs.{IsWorth, IsProof};
+ghost use Rattle.node_evaluation.specs.branch_tree.declared.evaluation.Evaluation.TheVariants.{Stopped};
 ghost use Rattle.node_evaluation.specs.declared.evaluator.Proof.TheVariants as proofs;
 ghost use Rattle.node_evaluation.specs.tree_rules.Past.{IsPastAt};
 

@@ -4,23 +4,23 @@ ghost use Rattle.dual_simplex.specs.number_sets.Sets.{has};
 ghost use Rattle.dual_simplex.specs.pns_rules.Shape.{shape_of};
 ghost use Rattle.dual_simplex.specs.pns_rules.Structure.{IsStructure};
 ghost use Rattle.node_evaluation.specs.tree_rules.Leaf.{IsRefuted};
-ghost use Rattle.certified_bounds.specs.Certified.{IsLeastBound, IsNetworkAt, HasUnits};
-ghost use Rattle.certified_bounds.specs.Certified.{IsCertified};
+ghost use Rattle.node_evaluation.specs.branch_tree.Evaluated.{IsBoundOf, IsNetworkOf, HasUnits};
+ghost use Rattle.certified_bounds.specs.Certified.{IsNowhere, IsCertified};
 ghost use Rattle.node_evaluation.specs.tree_rules.LeastFlows.{decided};
 ghost use Rattle.flow_evaluator.specs.Answers.{AnswersFor};
 
 use crate::answer::StructureFlows;
 use crate::laws::{allowed_is_decided, multipliers_prove};
 use crate::nodes::node_of;
-use certified_bounds::{Certified, CertifiedBounds, LeastBound};
+use certified_bounds::CertifiedBounds;
 use dual_simplex::{Problem, Site, UnitSet, weak_duality};
-use node_evaluation::{Multipliers, Network};
+use node_evaluation::{Bound, Evaluation, Multipliers, Network};
 use std::alloc::{AllocError, Global};
 
 /// The network with the multipliers of its bound, which is its cost.
-fn least(problem: &Problem, set: UnitSet, bound: LeastBound, network: Network) -> StructureFlows
-    requires bound { IsLeastBound problem.now (decided problem.now set) bound }
-    requires network { IsNetworkAt problem.now bound.value network }
+fn least(problem: &Problem, set: UnitSet, bound: Bound, network: Network) -> StructureFlows
+    requires bound { IsBoundOf IsNowhere problem.now (decided problem.now set) bound }
+    requires network { IsNetworkOf problem.now bound.value network }
     requires exact { bound.low ≡ bound.value }
     requires units { HasUnits (decided problem.now set) network }
     ensures { AnswersFor problem.now set result }
@@ -46,15 +46,15 @@ fn refuted(problem: &Problem, set: UnitSet, ys: Multipliers) -> StructureFlows
 }
 
 /// The answer for the node of the set, if there is one.
-fn told(problem: &Problem, set: UnitSet, certified: Certified) -> Option<StructureFlows>
+fn answer(problem: &Problem, set: UnitSet, found: Option<Evaluation>) -> Option<StructureFlows>
     requires structure { IsStructure (shape_of problem.now) (has set) }
-    requires certified { IsCertified problem.now (decided problem.now set) true certified }
+    requires certified { IsCertified problem.now (decided problem.now set) true found }
     ensures { IfSome result (AnswersFor problem.now set) }
 {
-    match certified {
-        Certified::Flows(bound, network) => Some(least(problem, set, bound, network)),
-        Certified::Refuted(ys) => Some(refuted(problem, set, ys)),
-        Certified::Least(_) | Certified::Nothing => None,
+    match found? {
+        Evaluation::Flows(bound, network) => Some(least(problem, set, bound, network)),
+        Evaluation::Refuted(ys) => Some(refuted(problem, set, ys)),
+        Evaluation::Least(_) | Evaluation::Stopped(_) => None,
     }
 }
 
@@ -76,6 +76,6 @@ pub(crate) fn certified(
     }
     let node = node_of(problem, set);
     let mut bounds = CertifiedBounds::open(alloc, site)?;
-    let certified = bounds.look(alloc, site, node, true)?;
-    Ok(told(problem, set, certified))
+    let found = bounds.look(alloc, site, node, true)?;
+    Ok(answer(problem, set, found))
 }

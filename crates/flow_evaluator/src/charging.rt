@@ -13,7 +13,8 @@ ghost use Rattle.dual_simplex.specs.flow_rules.Relaxed.{rows};
 ghost use Rattle.dual_simplex.specs.pgraph.CoversView.{cover_of, covers_of};
 ghost use Rattle.node_evaluation.specs.tree_rules.Claim.{IsAtLeast};
 ghost use Rattle.node_evaluation.specs.tree_rules.Leaf.{IsOneEach};
-ghost use Rattle.node_evaluation.specs.Evaluated.{IsChargeOf, cost_in};
+ghost use Rattle.node_evaluation.specs.branch_tree.Evaluated.{cost_in};
+ghost use Rattle.node_evaluation.specs.Proofs.{IsChargeOf};
 ghost use Rattle.flow_evaluator.specs.Charging.{IsFit, AreFit, IsOwnCharge, ReachesWith};
 
 use certified_bounds::{Charge, ChargeGuess, Facts, Proposal, charge_of, covers_node, is_cover};

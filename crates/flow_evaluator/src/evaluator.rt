@@ -8,23 +8,25 @@ ghost use Rattle.dual_simplex.specs.pgraph.View.{node_of};
 ghost use Rattle.dual_simplex.specs.Bench.{HasRoom};
 ghost use Rattle.node_evaluation.specs.tree_rules.Claim as claims;
 ghost use Rattle.node_evaluation.specs.tree_rules.Lean.{MayUndercut};
-ghost use Rattle.node_evaluation.specs.search_tree.Values.{IsPositive};
-ghost use Rattle.node_evaluation.specs.Evaluated.{IsEvaluated, IsWorth, IsProof, IsAtHand};
+ghost use Rattle.node_evaluation.specs.branch_tree.Values.{IsPositive};
+ghost use Rattle.node_evaluation.specs.branch_tree.Evaluated.{IsEvaluated};
+ghost use Rattle.node_evaluation.specs.Proofs.{IsWorth, IsProof, IsAtHand};
 ghost use Rattle.node_evaluation.specs.tree_rules.Past.{IsPastAt};
 ghost use Rattle.flow_evaluator.specs.Evaluating.{IsFor};
 
 use crate::answers::{bounded, proved, refuted, stopped, unproved};
 use crate::at_hand::{running_units, structure_with};
 use crate::charging::Charging;
-use crate::told::{bound_between, evaluation_of, first_look_of};
 use crate::tries::Tries;
 use crate::{allowed_is_decided, node_of};
-use certified_bounds::{Certified, CertifiedBounds};
+use certified_bounds::CertifiedBounds;
 use dual_simplex::{
     Bench, Ends, Node, Problem, Program, Site, UnitSet, entry_is_past, names_are_of_program,
     none_is_refuted, refutation, relaxed_duality,
 };
-use node_evaluation::{Charged, Evaluation, Evaluator, FirstLook, LowerBound, Network, Proof};
+use node_evaluation::{
+    Bound, Charged, Evaluation, Evaluator, FirstLook, Interval, LowerBound, Network, Proof,
+};
 use std::alloc::{AllocError, Global};
 use std::marker::Model;
 
@@ -192,7 +194,7 @@ impl FlowEvaluator {
         allowed_is_decided();
         let decided = node_of(site.problem(), set);
         match self.certified.look(alloc, site, decided, true)? {
-            Certified::Flows(bound, network) => {
+            Some(Evaluation::Flows(bound, network)) => {
                 self.tries.keep_cost(bound.value);
                 Ok(Some(network))
             }
@@ -284,8 +286,7 @@ impl FlowEvaluator {
             (λ found. IfSome found (IsEvaluated IsPastAt site.now (node_of node) decided)) }
     {
         self.is_walked = false;
-        let told = self.certified.look(alloc, site, node, decided)?;
-        Ok(evaluation_of(told))
+        self.certified.look(alloc, site, node, decided)
     }
 
     /// The answer for the node without its path and without a guess, at the basis that was noted at
@@ -304,8 +305,7 @@ impl FlowEvaluator {
             (λ found. IfSome found (IsEvaluated IsPastAt site.now (node_of node) false)) }
     {
         self.is_walked = false;
-        let told = self.certified.settle(alloc, site, node, &bound.basis)?;
-        Ok(evaluation_of(told))
+        self.certified.settle(alloc, site, node, &bound.basis)
     }
 
     /// The answer of the path of a node. If the path stops and not all is decided, the answer is
@@ -333,7 +333,15 @@ impl FlowEvaluator {
                 match self.certified.between(alloc, site, node)? {
                     Some(between) => {
                         self.is_walked = false;
-                        Ok(Evaluation::Least(bound_between(between, stop)))
+                        Ok(Evaluation::Least(Bound {
+                            value: between.low,
+                            low: between.low,
+                            scaled: between.scaled,
+                            interval: Some(Interval {
+                                reached: between.reached,
+                                stop,
+                            }),
+                        }))
                     }
                     None => Ok(Evaluation::Stopped(stop)),
                 }
@@ -394,8 +402,7 @@ impl Evaluator for FlowEvaluator {
         node: Node,
     ) -> Result<FirstLook, AllocError> {
         self.is_walked = false;
-        let told = self.certified.look_first(alloc, site, node)?;
-        let first = first_look_of(told);
+        let first = self.certified.look_first(alloc, site, node)?;
         self.tries.keep_first(&first);
         Ok(first)
     }

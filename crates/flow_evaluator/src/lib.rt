@@ -17,9 +17,9 @@
 //! `flows_of` promises. [`node_of`] is the node of a set of units. `specs/Laws` has the contracts
 //! of the functions of `laws`: a proof elsewhere calls one to have its law.
 //!
-//! Modules of the evaluator: `evaluator`; `told` its answers without a path; `answers` what the
-//! last basis of a path gives; `sums` the sums over what the bench keeps, which may overflow;
-//! `at_hand` a trial structure at a node; `tries` when its flows are tried; `charging` charges.
+//! Modules of the evaluator: `evaluator`; `answers` what the last basis of a path gives; `sums` the
+//! sums over what the bench keeps, which may overflow; `at_hand` a trial structure at a node;
+//! `tries` when its flows are tried; `charging` charges.
 //! Modules of structures: `nodes` the node of a set of units; `least` the call; `certified` the
 //! flows without a path; `answer` the answers; `laws`.
 #![tactic(auto)]
@@ -34,7 +34,6 @@ mod laws;
 mod least;
 mod nodes;
 mod sums;
-mod told;
 mod tries;
 
 pub use answer::StructureFlows;

@@ -9,7 +9,7 @@ use Rattle.search_tree.specs.tree_rules.Claim.{CostOver, claimed_cost}
 use Rattle.search_tree.specs.Cells.{Cell, place_of, cell_at}
 use Rattle.search_tree.specs.tree_rules.Lean.{MayUndercut}
 use Rattle.search_tree.specs.tree_rules.Costs.{HasFallen}
-use Rattle.search_tree.specs.Values.{IsPositiveCost}
+use Rattle.search_tree.specs.branch_tree.Values.{IsPositiveCost}
 use Rattle.search_tree.specs.Turns.{AreChildren}
 use Rattle.search_tree.proofs.Cited.{leaf_fallen, may_any}
 use Rattle.node_evaluation.specs.Looks.{cost_of}

@@ -33,14 +33,14 @@ use Rattle.search_tree.specs.Growth.{EndsOpen}
 use Rattle.search_tree.specs.Fits.{Follows}
 use Rattle.search_tree.specs.declared.growth.Fresh.{Fresh}
 use Rattle.search_tree.specs.tree_rules.Costs.{HasFallen}
-use Rattle.search_tree.specs.Values.{IsPositiveCost}
+use Rattle.search_tree.specs.branch_tree.Values.{IsPositiveCost}
 use Rattle.search_tree.specs.Turns.{IsFreshChild}
-use Rattle.node_evaluation.specs.declared.evaluator.PastStop.{PastStop}
+use Rattle.search_tree.specs.branch_tree.declared.evaluation.PastStop.{PastStop}
 use Rattle.node_evaluation.specs.declared.looks.Ready.{Ready}
 use Rattle.node_evaluation.specs.declared.looks.Looked.{Looked}
 use Rattle.node_evaluation.specs.declared.children.StoppedAt.{StoppedAt}
 use Rattle.node_evaluation.specs.declared.children.Children.{Children}
-use Rattle.node_evaluation.specs.Evaluated.{PastPlaces, cost_in}
+use Rattle.search_tree.specs.branch_tree.Evaluated.{PastPlaces, cost_in}
 use Rattle.node_evaluation.specs.Looks.{cost_of, is_bounded, has_bounded, KnowsCell, AreFoundAt}
 use Rattle.node_evaluation.specs.Looks.{IsStop, IsOpenAs}
 use Rattle.node_evaluation.specs.Children.{claim_with, IsBest, IsImproved, cells_of, values_of}

@@ -32,7 +32,8 @@ use Rattle.node_evaluation.specs.declared.looks.Ready.{Ready}
 use Rattle.node_evaluation.specs.declared.looks.Looked.{Looked}
 use Rattle.node_evaluation.specs.declared.children.StoppedAt.{StoppedAt}
 use Rattle.node_evaluation.specs.declared.children.Children.{Children}
-use Rattle.node_evaluation.specs.Evaluated.{PastPlaces, cost_in, IsAtHand}
+use Rattle.search_tree.specs.branch_tree.Evaluated.{PastPlaces, cost_in}
+use Rattle.node_evaluation.specs.Proofs.{IsAtHand}
 use Rattle.node_evaluation.specs.Looks.{cost_of, has_bounded, KnowsCell}
 use Rattle.node_evaluation.specs.Children.{claim_with, IsImproved, cells_of, IsChild, StopHolds}
 use Rattle.node_evaluation.specs.Children.{stop_after, options_in, IsSameBut, AreLooked}

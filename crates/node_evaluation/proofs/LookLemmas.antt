@@ -1,6 +1,6 @@
 -- What a look sees.
 use Rattle.std.proofs.Common.{◌≡◌, ℕ, true, false, List, [], ◌∷◌, Result, Ok, Err, IfOk, Option}
-use Rattle.std.proofs.Common.{Some, None, refl, sym, ap, ◌∙◌, subst, arith}
+use Rattle.std.proofs.Common.{Some, None, refl, sym, ap, ◌∙◌, subst, arith, ℤ, ◌*ℤ◌, ◌≤ℤ◌}
 use Rattle.std.proofs.lemmas.Int.{ints}
 use Rattle.std.specs.Prelude.{is_some}
 use Rattle.structure_list.specs.integer_laws.Range.{InRange, AllInRange}
@@ -19,24 +19,28 @@ use Rattle.search_tree.specs.tree_rules.Leaf.{Leaf, bounded, untried, IsUntried,
 use Rattle.neutral_extension.specs.Moves.{Extends}
 use Rattle.search_tree.specs.Cells.{Cell, place_of}
 use Rattle.search_tree.specs.Growth.{as_shut}
-use Rattle.search_tree.specs.Values.{IsPositive, IsUnder, IsValueOf}
+use Rattle.search_tree.specs.branch_tree.Values.{IsPositive, IsUnder, IsValueOf}
 use Rattle.search_tree.specs.tree_rules.Costs.{IsNoMore}
 use Rattle.search_tree.proofs.Cited.{leaf_fallen, under_reached, reached_more}
 use Rattle.search_tree.specs.exact_numbers.declared.number.Mixed.{Mixed}
+use Rattle.search_tree.specs.exact_numbers.Number.{numerator, denominator}
 use Rattle.search_tree.specs.exact_numbers.MixedOrderLaws.{denominator_positive}
 use Rattle.node_evaluation.specs.declared.choice.Choice.{Choice}
 use Rattle.node_evaluation.specs.Choices.{IsChoice}
-use Rattle.node_evaluation.specs.declared.evaluator.Bound.{Bound}
-use Rattle.node_evaluation.specs.declared.evaluator.Interval.{Interval}
-use Rattle.node_evaluation.specs.declared.evaluator.PastStop.{PastStop}
+use Rattle.search_tree.specs.branch_tree.declared.evaluation.Bound.{Bound}
+use Rattle.search_tree.specs.branch_tree.declared.evaluation.Interval.{Interval}
+use Rattle.search_tree.specs.branch_tree.declared.evaluation.PastStop.{PastStop}
 use Rattle.node_evaluation.specs.declared.looks.Worth.{Worth}
 use Rattle.node_evaluation.specs.declared.looks.Looked.{Looked}
-use Rattle.node_evaluation.specs.Evaluated.{PastPlaces, cost_over, cost_in, IsWorthAs, IsBoundOf}
-use Rattle.node_evaluation.specs.Evaluated.{IsNetworkOf, HasUnits}
+use Rattle.search_tree.specs.branch_tree.Evaluated.{PastPlaces, cost_over, cost_in, IsWorthAs}
+use Rattle.search_tree.specs.branch_tree.Evaluated.{IsBoundOf, IsNetworkOf, HasUnits}
 use Rattle.node_evaluation.specs.Looks.{is_bounded_leaf, is_bounded, is_charged_leaf, is_charged}
 use Rattle.node_evaluation.specs.Looks.{cost_of, IsWorthOf, IsFoundAt, AreFoundAt, IsOpenAs}
 use Rattle.node_evaluation.specs.Looks.{IsSameNode, IsSeen, IsLooked}
 use Rattle.node_evaluation.proofs.KnownLemmas.{known_steps}
+
+no_more_of_same : (a b : ℤ) → a ≡ b → a ≤ℤ b
+no_more_of_same a b e = omega (arith, ints)
 
 -- what a lower bound is over is above 0
 pub low_positive : (b : Bound) → IsPositive (cost_over b.low)
@@ -61,8 +65,17 @@ found_here p n value w decided h k units = record {
   feasible = k.feasible;
   positive = k.positive;
   reached =
-      reached_more p n (cost_over value) (cost_in w) h.positive k.positive k.no_less h.reached;
+      reached_more p n (cost_over value) (cost_in w) h.positive k.positive
+      (no_more_of_same (numerator value *ℤ w.d) (w.cost *ℤ denominator value) (sym k.costs))
+      h.reached;
 }
+
+-- the network costs no more than the lower bound, which is the value
+flows_reached : (p : Problem) (b : Bound) (w : Network) → IsNetworkOf p b.value w
+    → b.low ≡ b.value → IsNoMore (cost_in w) (cost_over b.low)
+flows_reached p b w k exact =
+    subst (λ (m : Mixed). IsNoMore (cost_in w) (cost_over m)) (sym exact)
+    (no_more_of_same (w.cost *ℤ denominator b.value) (numerator b.value *ℤ w.d) k.costs)
 
 module _ (Past : PastPlaces) (p : Problem) (cell : Cell) (l : Looked) where
   pub seen_solved : (b : Bound) (w : Network)
@@ -70,9 +83,9 @@ module _ (Past : PastPlaces) (p : Problem) (cell : Cell) (l : Looked) where
       → l.stop ≡ None
       → IsDecided (shape_of p) (place_of cell) → b.interval ≡ None
       → IsBoundOf Past p (place_of cell) b → IsNetworkOf p b.value w
-      → IsNoMore (cost_in w) (cost_over b.low) → HasUnits (place_of cell) w → InRange b.scaled.d
+      → b.low ≡ b.value → HasUnits (place_of cell) w → InRange b.scaled.d
       → AllInRange b.scaled.ys → IsSeen Past p l
-  seen_solved b w ec en eh decided exact h k reached units scale multipliers = record {
+  seen_solved b w ec en eh decided exact h k tight units scale multipliers = record {
     what = bounded b.scaled.d b.scaled.ys;
     end_is = ap (λ (c : Cell). c.end) ec;
     passes =
@@ -83,7 +96,8 @@ module _ (Past : PastPlaces) (p : Problem) (cell : Cell) (l : Looked) where
         (λ (c : Cell). LeafPasses true p (Some (cost_in w)) (place_of c)
         (bounded b.scaled.d b.scaled.ys)) (sym ec)
         (leaf_fallen p (Some (cost_over b.low)) (Some (cost_in w)) (place_of cell)
-        (bounded b.scaled.d b.scaled.ys) reached (low_positive b) k.positive h.bounded));
+        (bounded b.scaled.d b.scaled.ys) (flows_reached p b w k tight) (low_positive b) k.positive
+        h.bounded));
     found = subst (λ (o : Option Network). AreFoundAt p (place_of l.cell) o) (sym en)
         (subst (λ (c : Cell). IsFoundAt p (place_of c) w) (sym ec)
         (found_here p (place_of cell) b.value w decided

@@ -17,16 +17,16 @@ use Rattle.search_tree.specs.Growth.{EndsOpen}
 use Rattle.search_tree.specs.Fits.{Follows}
 use Rattle.search_tree.specs.declared.growth.Fresh.{Fresh}
 use Rattle.search_tree.specs.tree_rules.Costs.{HasFallen}
-use Rattle.search_tree.specs.Values.{IsPositiveCost}
+use Rattle.search_tree.specs.branch_tree.Values.{IsPositiveCost}
 use Rattle.search_tree.specs.Turns.{IsFreshChild, AreChildren}
 use Rattle.node_evaluation.specs.declared.choice.Choice.{Choice}
 use Rattle.node_evaluation.specs.declared.choice.Choice.TheVariants.{Material, Unit as AtUnit}
-use Rattle.node_evaluation.specs.declared.evaluator.PastStop.{PastStop}
+use Rattle.search_tree.specs.branch_tree.declared.evaluation.PastStop.{PastStop}
 use Rattle.node_evaluation.specs.declared.looks.Ready.{Ready}
 use Rattle.node_evaluation.specs.declared.looks.Looked.{Looked}
 use Rattle.node_evaluation.specs.declared.children.StoppedAt.{StoppedAt}
 use Rattle.node_evaluation.specs.declared.children.Children.{Children}
-use Rattle.node_evaluation.specs.Evaluated.{PastPlaces, cost_in}
+use Rattle.search_tree.specs.branch_tree.Evaluated.{PastPlaces, cost_in}
 use Rattle.node_evaluation.specs.Looks.{cost_of, is_bounded, is_charged, has_bounded, KnowsCell}
 use Rattle.node_evaluation.specs.Looks.{IsFoundAt, AreFoundAt, IsSomeReady, IsStop, IsOpenAs}
 

@@ -1,7 +1,7 @@
 pub mod Children
 pub mod Choices
-pub mod Evaluated
 pub mod Looks
+pub mod Proofs
 pub use Rattle.structure_list.specs.number_sets as number_sets
 pub use Rattle.structure_list.specs.integer_laws as integer_laws
 pub use Rattle.structure_list.specs.pns_rules as pns_rules

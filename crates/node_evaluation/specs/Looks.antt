@@ -16,7 +16,7 @@ use Rattle.search_tree.specs.tree_rules.Known.{KnowsNode, KnowsEnd}
 use Rattle.search_tree.specs.Cells.{Cell, place_of}
 use Rattle.search_tree.specs.Fits.{Follows}
 use Rattle.node_evaluation.specs.Choices.{IsChoice}
-use Rattle.node_evaluation.specs.declared.evaluator.PastStop.{PastStop}
+use Rattle.search_tree.specs.branch_tree.declared.evaluation.PastStop.{PastStop}
 use Rattle.node_evaluation.specs.declared.looks.Worth.{Worth}
 use Rattle.node_evaluation.specs.declared.looks.Worth.TheVariants.{AtLeast, Settled}
 use Rattle.node_evaluation.specs.declared.looks.Worth.TheVariants as worths
@@ -24,8 +24,8 @@ use Rattle.node_evaluation.specs.declared.looks.Settling.{Settling}
 use Rattle.node_evaluation.specs.declared.looks.Settling.TheVariants as settlings
 use Rattle.node_evaluation.specs.declared.looks.Ready.{Ready}
 use Rattle.node_evaluation.specs.declared.looks.Looked.{Looked}
-use Rattle.node_evaluation.specs.Evaluated.{PastPlaces, cost_in, IsLowerBoundOf, IsBoundOf}
-use Rattle.node_evaluation.specs.Evaluated.{HasUnits}
+use Rattle.search_tree.specs.branch_tree.Evaluated.{PastPlaces, cost_in, IsLowerBoundOf, IsBoundOf}
+use Rattle.search_tree.specs.branch_tree.Evaluated.{HasUnits}
 
 -- ---- an open leaf
 

@@ -9,7 +9,8 @@ ghost use Rattle.node_evaluation.specs.Choices.{IsChoice, way_of};
 ghost use Rattle.structure_list.specs.pgraph.View.{node_of};
 ghost use Rattle.search_tree.specs.tree_rules.Costs.{IsNoMore, HasFallen};
 ghost use Rattle.search_tree.specs.Cells.{place_of};
-ghost use Rattle.node_evaluation.specs.Evaluated.{cost_in, IsAtHand};
+ghost use Rattle.search_tree.specs.branch_tree.Evaluated.{cost_in};
+ghost use Rattle.node_evaluation.specs.Proofs.{IsAtHand};
 ghost use Rattle.node_evaluation.specs.Looks.{cost_of};
 ghost use Rattle.node_evaluation.specs.Children.{IsChild, IsSameBut, AreLooked, AreSeen};
 ghost use Rattle.node_evaluation.specs.Children.{AreSolvedBy, cells_of, options_in, stop_after};
@@ -18,11 +19,11 @@ ghost use Rattle.neutral_extension.specs.Candidates.{AreMakersOf};
 
 use crate::Choice;
 use crate::costs::is_no_more;
-use crate::evaluator::{Evaluator, PastStop};
+use crate::evaluator::Evaluator;
 use crate::looks::{Looked, Ready, look, nothing, open_cell};
 use crate::options::{child_of, options_of};
 use crate::workspace::Workspace;
-use search_tree::{Fresh, Network, Steps};
+use search_tree::{Fresh, Network, PastStop, Steps};
 use std::alloc::{AllocError, Global};
 use structure_list::{Node, Site, UnitSet};
 

@@ -4,72 +4,14 @@ ghost use Rattle.structure_list.specs.pns_rules.Shape.{shape_of};
 ghost use Rattle.structure_list.specs.pns_rules.Ends.{IsSound, IsReduced, IsDecided};
 ghost use Rattle.structure_list.specs.problem_rules.Problem.{Problem};
 ghost use Rattle.structure_list.specs.pgraph.View.{node_of};
-ghost use Rattle.node_evaluation.specs.Evaluated.{PastPlaces, IsFirstLook, IsEvaluated, IsWorth};
-ghost use Rattle.node_evaluation.specs.Evaluated.{IsProof, IsAtHand, IsChargeOf, cost_in};
+ghost use Rattle.search_tree.specs.branch_tree.Evaluated.{PastPlaces, IsFirstLook, IsEvaluated};
+ghost use Rattle.node_evaluation.specs.Proofs.{IsWorth};
+ghost use Rattle.search_tree.specs.branch_tree.Evaluated.{cost_in};
+ghost use Rattle.node_evaluation.specs.Proofs.{IsProof, IsAtHand, IsChargeOf};
 
-use search_tree::{Columns, Mixed, Multipliers, Network, Scaled};
+use search_tree::{Evaluation, FirstLook, LowerBound, Network, PastStop, Scaled};
 use std::alloc::{AllocError, Global};
-use structure_list::{Covers, Node, Place, Site};
-
-/// The columns outside a basis, and the place at which a number overflows.
-#[derive(Drop)]
-pub struct PastStop {
-    pub nonbasic: Columns,
-    pub place: Place,
-}
-
-/// What is known of a node whose least cost overflows: what some relaxed flows of it cost at most,
-/// and the place at which its path stops.
-#[derive(Drop)]
-pub struct Interval {
-    pub reached: Mixed,
-    pub stop: PastStop,
-}
-
-/// A cost that no relaxed flows of a node undercut, and multipliers over their scale that prove so.
-#[derive(Drop)]
-pub struct LowerBound {
-    pub low: Mixed,
-    pub scaled: Scaled,
-    /// Where to begin when the worth of the node is settled, as the evaluator noted it: nothing
-    /// rests on it.
-    pub basis: Vec<u16>,
-}
-
-/// The answer of a first look at a node at which not all is decided.
-#[derive(Drop)]
-pub enum FirstLook {
-    /// No relaxed flows of the node cost less, if it has any.
-    AtLeast(LowerBound),
-    /// The node has no relaxed flows.
-    Refuted(Multipliers),
-    /// There is no answer: the node is to be evaluated.
-    Nothing,
-}
-
-/// The least cost of relaxed flows, or, if there is an interval, a cost that none undercut. The
-/// multipliers over their scale prove that no relaxed flows cost less than `low`.
-#[derive(Drop)]
-pub struct Bound {
-    pub value: Mixed,
-    pub low: Mixed,
-    pub scaled: Scaled,
-    pub interval: Option<Interval>,
-}
-
-/// The answer for a node.
-#[derive(Drop)]
-pub enum Evaluation {
-    /// The node has relaxed flows, and is worth this much.
-    Least(Bound),
-    /// All is decided at the node, and the network of its units costs just the value, which `low`
-    /// reaches.
-    Flows(Bound, Network),
-    /// The node has no relaxed flows.
-    Refuted(Multipliers),
-    /// A number overflows.
-    Stopped(PastStop),
-}
+use structure_list::{Covers, Node, Site};
 
 /// The answer for a node that is worth no less than a cost.
 #[derive(Drop)]

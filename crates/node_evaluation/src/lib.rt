@@ -36,15 +36,14 @@ pub use children::{
 };
 pub use choice::{Choice, choose};
 pub use costs::is_no_more;
-pub use evaluator::{
-    Bound, Charged, Evaluation, Evaluator, FirstLook, Interval, LowerBound, PastStop, Proof,
-};
+pub use evaluator::{Charged, Evaluator, Proof};
 pub use laws::choices_decide;
 pub use looks::{Looked, Ready, Settling, Worth, look, open_cell, settle};
 pub use search_tree::{
-    Cell, Claim, Columns, End, Fresh, Mixed, Multipliers, Network, Pool, Scaled, Shut, Steps, Tree,
-    accepted_has_flows, accepted_is_optimal, branch, copy_multipliers, copy_scaled,
-    nodes_in_preorder, preorder_is_tree,
+    Bound, Cell, Claim, Columns, End, Evaluation, FirstLook, Fresh, Interval, LowerBound, Mixed,
+    Multipliers, Network, PastStop, Pool, Scaled, Shut, Steps, Tree, accepted_has_flows,
+    accepted_is_optimal, branch, copy_multipliers, copy_scaled, nodes_in_preorder,
+    preorder_is_tree,
 };
 pub use structure_list::{Node, Place, Site, UnitSet, maximal};
 pub use workspace::Workspace;

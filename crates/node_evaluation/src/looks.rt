@@ -12,11 +12,14 @@ ghost use Rattle.search_tree.specs.tree_rules.Known.{AreUnits};
 ghost use Rattle.search_tree.specs.Growth.{as_shut};
 ghost use Rattle.node_evaluation.specs.Looks.{IsLooked, IsSameNode, IsSeen, IsSettling};
 
-use crate::evaluator::{Bound, Evaluation, Evaluator, FirstLook, LowerBound, PastStop};
+use crate::evaluator::Evaluator;
 use crate::workspace::Workspace;
 use crate::{Choice, choose};
 use neutral_extension::{Stop, extend_with};
-use search_tree::{Cell, End, Mixed, Multipliers, Network, Steps};
+use search_tree::{
+    Bound, Cell, End, Evaluation, FirstLook, LowerBound, Mixed, Multipliers, Network, PastStop,
+    Steps,
+};
 use std::alloc::AllocError;
 use structure_list::{Node, Site, UnitSet};
 

@@ -11,11 +11,11 @@ use Rattle.rank_check.specs.unit_sets.declared.node.Node as starts
 use Rattle.rank_check.specs.tree_rules.Leaf.{Scaled, bounded, IsBounded}
 use Rattle.rank_check.specs.tree_rules.Claim.{Network, CostOver, claimed_cost}
 use Rattle.rank_check.specs.tree_rules.Costs.{HasFallen, IsNoMore}
-use Rattle.abb_search.specs.search_tree.Values.{IsPositiveCost}
+use Rattle.abb_search.specs.branch_tree.Values.{IsPositiveCost}
 use Rattle.abb_search.proofs.search_tree.Cited.{leaf_fallen}
 use Rattle.rank_check.specs.exact_numbers.declared.number.Mixed.{Mixed}
 use Rattle.abb_search.specs.search_tree.Cells.{place_of, cell_at}
-use Rattle.abb_search.specs.node_evaluation.Evaluated.{cost_over, cost_in}
+use Rattle.abb_search.specs.branch_tree.Evaluated.{cost_over, cost_in}
 use Rattle.abb_search.specs.node_evaluation.Looks.{cost_of}
 use Rattle.abb_search.specs.node_evaluation.Children.{claim_with}
 use Rattle.abb_search.specs.declared.growing.Growing.{Growing}

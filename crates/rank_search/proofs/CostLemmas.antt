@@ -11,10 +11,10 @@ use Rattle.rank_check.specs.pns_rules.Nodes.{Node}
 use Rattle.rank_check.specs.tree_rules.Claim.{Network, CostOver, IsAtMost}
 use Rattle.rank_check.specs.tree_rules.Lean.{MayUndercut, HasCheaper}
 use Rattle.rank_check.specs.rank_rules.Networks.{cost_of, last_cost}
-use Rattle.abb_search.specs.search_tree.Values.{IsPositive, IsPositiveCost}
+use Rattle.abb_search.specs.branch_tree.Values.{IsPositive, IsPositiveCost}
 use Rattle.rank_check.specs.tree_rules.Costs.{IsNoMore, HasFallen}
 use Rattle.abb_search.proofs.search_tree.Cited.{fraction_trans, reached_may_undercut}
-use Rattle.abb_search.specs.node_evaluation.Evaluated.{cost_in}
+use Rattle.abb_search.specs.branch_tree.Evaluated.{cost_in}
 use Rattle.rank_search.specs.Found.{FoundAt, networks_of, undercut_by, AreRising}
 use Rattle.rank_search.specs.Listed.{Listed, AreScaled, IsListed, AreDearer, IsAdded, AreAdded}
 use Rattle.rank_search.proofs.PlaceLemmas.{take_all, append_none, length_taken, rising_between}

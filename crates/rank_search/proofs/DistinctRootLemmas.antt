@@ -4,7 +4,7 @@ use Rattle.rank_check.specs.problem_rules.Problem.{Problem}
 use Rattle.rank_check.specs.pgraph.View.{node_of}
 use Rattle.rank_check.specs.unit_sets.declared.node.Node as starts
 use Rattle.rank_check.specs.tree_rules.Accepted.{first_node}
-use Rattle.abb_search.specs.node_evaluation.Evaluated.{PastPlaces}
+use Rattle.abb_search.specs.branch_tree.Evaluated.{PastPlaces}
 use Rattle.abb_search.specs.node_evaluation.Children.{AreSolvedBy}
 use Rattle.abb_search.specs.declared.growing.Growing.{Growing}
 use Rattle.abb_search.specs.Growing.{IsLookedRoot}

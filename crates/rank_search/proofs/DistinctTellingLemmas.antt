@@ -30,7 +30,7 @@ use Rattle.abb_search.specs.search_tree.Cells.{Cell, place_of, cell_at}
 use Rattle.abb_search.specs.search_tree.Fits.{EndFits}
 use Rattle.abb_search.specs.search_tree.Shut.{shut_leaf}
 use Rattle.abb_search.proofs.search_tree.Cited.{proof_of, leaf_fallen}
-use Rattle.abb_search.specs.node_evaluation.Evaluated.{cost_over}
+use Rattle.abb_search.specs.branch_tree.Evaluated.{cost_over}
 use Rattle.abb_search.specs.node_evaluation.Looks.{is_bounded, is_bounded_leaf, is_charged}
 use Rattle.abb_search.specs.node_evaluation.Children.{claim_with}
 use Rattle.abb_search.specs.declared.growing.Growing.{Growing}

@@ -20,7 +20,7 @@ use Rattle.abb_search.specs.search_tree.Growth.{as_parent, as_shut, EndsOpen, is
 use Rattle.abb_search.specs.search_tree.Cells.{Cell, place_of, cell_at}
 use Rattle.abb_search.specs.node_evaluation.declared.choice.Choice.{Choice}
 use Rattle.abb_search.specs.node_evaluation.Choices.{IsChoice, way_of, option_count}
-use Rattle.abb_search.specs.node_evaluation.Evaluated.{PastPlaces}
+use Rattle.abb_search.specs.branch_tree.Evaluated.{PastPlaces}
 use Rattle.abb_search.specs.node_evaluation.Looks.{IsStop}
 use Rattle.abb_search.specs.node_evaluation.Children.{AreSolvedBy, cells_of}
 use Rattle.abb_search.specs.declared.growing.Growing.{Growing}

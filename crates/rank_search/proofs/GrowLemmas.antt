@@ -23,7 +23,7 @@ use Rattle.abb_search.specs.search_tree.Growth.{as_parent}
 use Rattle.abb_search.specs.search_tree.Turns.{AreChildren}
 use Rattle.abb_search.specs.node_evaluation.declared.choice.Choice.{Choice}
 use Rattle.abb_search.specs.node_evaluation.Choices.{IsChoice, way_of, option_count}
-use Rattle.abb_search.specs.node_evaluation.Evaluated.{PastPlaces, cost_in}
+use Rattle.abb_search.specs.branch_tree.Evaluated.{PastPlaces, cost_in}
 use Rattle.abb_search.specs.node_evaluation.Children.{claim_with, AreSolvedBy, cells_of}
 use Rattle.abb_search.proofs.node_evaluation.Cited.{comes, may_branch}
 use Rattle.abb_search.specs.declared.growing.Growing.{Growing}

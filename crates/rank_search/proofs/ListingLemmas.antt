@@ -18,7 +18,7 @@ use Rattle.rank_check.specs.tree_rules.Costs.{IsNoMore}
 use Rattle.abb_search.proofs.search_tree.Cited.{fraction_trans}
 use Rattle.rank_check.specs.exact_numbers.declared.number.Mixed.{Mixed}
 use Rattle.abb_search.specs.search_tree.Cells.{Cell, no_cell, place_of, cell_at}
-use Rattle.abb_search.specs.node_evaluation.Evaluated.{cost_over, cost_in}
+use Rattle.abb_search.specs.branch_tree.Evaluated.{cost_over, cost_in}
 use Rattle.abb_search.specs.node_evaluation.Looks.{is_bounded, is_charged}
 use Rattle.abb_search.specs.node_evaluation.Children.{IsSolvedAs, IsSolvedBy, AreSolvedBy}
 use Rattle.rank_search.specs.Found.{FoundAt}

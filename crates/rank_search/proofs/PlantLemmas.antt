@@ -10,7 +10,7 @@ use Rattle.rank_check.specs.problem_rules.Each.{Each}
 use Rattle.rank_check.specs.tree_rules.Claim.{Network, IsSized}
 use Rattle.rank_check.specs.exact_numbers.declared.number.Mixed.{Mixed}
 use Rattle.rank_check.specs.tree_rules.Claim.{CostOver}
-use Rattle.abb_search.specs.node_evaluation.Evaluated.{cost_over, cost_in}
+use Rattle.abb_search.specs.branch_tree.Evaluated.{cost_over, cost_in}
 use Rattle.rank_check.specs.tree_rules.Costs.{IsNoMore}
 use Rattle.rank_check.specs.rank_rules.Networks.{Repeats, AreAlike, IsNoCheaper}
 use Rattle.rank_search.specs.Found.{FoundAt, networks_of, AreRising}

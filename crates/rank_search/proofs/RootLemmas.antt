@@ -12,9 +12,9 @@ use Rattle.rank_check.specs.tree_rules.Leaf.{Leaf, dead, clash, refuted, bounded
 use Rattle.rank_check.specs.tree_rules.Claim.{Network, CostOver}
 use Rattle.rank_check.specs.tree_rules.Accepted.{first_node}
 use Rattle.abb_search.specs.search_tree.Cells.{Cell, place_of, cell_at}
-use Rattle.abb_search.specs.search_tree.Values.{IsPositiveCost}
+use Rattle.abb_search.specs.branch_tree.Values.{IsPositiveCost}
 use Rattle.abb_search.specs.search_tree.Kept.{LeafIsKept, EndIsKept}
-use Rattle.abb_search.specs.node_evaluation.Evaluated.{PastPlaces}
+use Rattle.abb_search.specs.branch_tree.Evaluated.{PastPlaces}
 use Rattle.abb_search.specs.node_evaluation.Children.{AreSolvedBy}
 use Rattle.abb_search.specs.declared.growing.Growing.{Growing}
 use Rattle.abb_search.specs.declared.growing.StoppedLeaf.{StoppedLeaf}

@@ -9,7 +9,7 @@ use Rattle.rank_check.specs.tree_rules.Stops.{IsOpenAt}
 use Rattle.rank_check.specs.tree_rules.Tail.{whole, spent, past}
 use Rattle.abb_search.specs.search_tree.Growth.{EndsOpen}
 use Rattle.abb_search.specs.search_tree.Cells.{place_of, cell_at}
-use Rattle.abb_search.specs.node_evaluation.Evaluated.{PastPlaces}
+use Rattle.abb_search.specs.branch_tree.Evaluated.{PastPlaces}
 use Rattle.abb_search.specs.declared.growing.Growing.{Growing}
 use Rattle.abb_search.specs.declared.growing.StoppedLeaf.{StoppedLeaf}
 use Rattle.abb_search.specs.Growing.{IsStoppedAt}

@@ -6,7 +6,7 @@ use Rattle.abb_search.specs.node_pool.Pooled.{Pooled}
 use Rattle.rank_check.specs.tree_rules.Claim.{CostOver}
 use Rattle.abb_search.specs.search_tree.Growth.{EndsOpen}
 use Rattle.abb_search.specs.search_tree.Cells.{Cell, place_of, cell_at}
-use Rattle.abb_search.specs.node_evaluation.Evaluated.{PastPlaces}
+use Rattle.abb_search.specs.branch_tree.Evaluated.{PastPlaces}
 use Rattle.abb_search.specs.node_evaluation.Looks.{IsStop}
 use Rattle.abb_search.specs.declared.growing.Growing.{Growing}
 use Rattle.abb_search.specs.declared.growing.StoppedLeaf.{StoppedLeaf}

@@ -9,7 +9,7 @@ use Rattle.rank_check.specs.tree_rules.Leaf.{IsBounded}
 use Rattle.rank_check.specs.tree_rules.Accepted.{first_node}
 use Rattle.abb_search.specs.search_tree.Cells.{Cell, place_of, cell_at}
 use Rattle.abb_search.specs.search_tree.Growth.{is_open}
-use Rattle.abb_search.specs.node_evaluation.Evaluated.{PastPlaces, cost_over}
+use Rattle.abb_search.specs.branch_tree.Evaluated.{PastPlaces, cost_over}
 use Rattle.abb_search.specs.node_evaluation.Children.{claim_with}
 use Rattle.abb_search.specs.declared.growing.Growing.{Growing}
 use Rattle.abb_search.specs.declared.rounds.Ending.{Ending}

@@ -14,7 +14,7 @@ use Rattle.rank_check.specs.tree_rules.Leaf.{bounded, IsBounded}
 use Rattle.rank_check.specs.exact_numbers.declared.number.Mixed.{Mixed}
 use Rattle.rank_check.specs.exact_numbers.Number.{denominator}
 use Rattle.abb_search.specs.search_tree.Cells.{Cell, place_of, cell_at}
-use Rattle.abb_search.specs.node_evaluation.Evaluated.{cost_over, cost_in}
+use Rattle.abb_search.specs.branch_tree.Evaluated.{cost_over, cost_in}
 use Rattle.abb_search.specs.node_evaluation.Looks.{is_bounded, is_charged}
 use Rattle.rank_search.specs.Found.{FoundAt, undercut_by}
 use Rattle.rank_search.specs.Plants.{IsInList}

@@ -6,7 +6,7 @@ use Rattle.rank_check.specs.flow_rules.declared.place.Place.{Place}
 use Rattle.rank_check.specs.tree_rules.Accepted.{first_node}
 use Rattle.rank_check.specs.tree_rules.Stops.{IsPast}
 use Rattle.rank_check.specs.tree_rules.Tail.{whole, spent, past}
-use Rattle.abb_search.specs.node_evaluation.Evaluated.{PastPlaces}
+use Rattle.abb_search.specs.branch_tree.Evaluated.{PastPlaces}
 use Rattle.rank_check.specs.tree_rules.Past.{IsPastAt}
 use Rattle.rank_check.specs.rank_rules.Marked.{marked}
 use Rattle.rank_check.specs.rank_rules.Text.{Text}

@@ -3,7 +3,7 @@ use Rattle.std.specs.Prelude.{◌≡◌, ℕ, ◌<◌, length, Option, Some, Non
 use Rattle.rank_check.specs.problem_rules.Problem.{Problem}
 use Rattle.rank_check.specs.pgraph.View.{node_of}
 use Rattle.rank_check.specs.tree_rules.Accepted.{first_node}
-use Rattle.abb_search.specs.node_evaluation.Evaluated.{PastPlaces}
+use Rattle.abb_search.specs.branch_tree.Evaluated.{PastPlaces}
 use Rattle.abb_search.specs.declared.growing.Growing.{Growing}
 use Rattle.abb_search.specs.declared.rounds.Ending.{Ending}
 use Rattle.abb_search.specs.Growing.{IsTreeKeptFor, GoesOnFor}

@@ -3,7 +3,7 @@
 ghost use Rattle.std.specs.Prelude.{◌≡◌, ◌≤◌, Option, None, Some, true, IfOk, IfSome, IsTrue};
 ghost use Rattle.abb_search.specs.link_lists.Lists.{first};
 ghost use Rattle.rank_check.specs.tree_rules.Costs.{HasFallen};
-ghost use Rattle.abb_search.specs.node_evaluation.Evaluated.{cost_in};
+ghost use Rattle.abb_search.specs.branch_tree.Evaluated.{cost_in};
 ghost use Rattle.abb_search.specs.node_evaluation.Looks.{cost_of};
 ghost use Rattle.abb_search.specs.Growing.{IsGrowingFor};
 ghost use Rattle.abb_search.specs.Closing.{ShutAll};

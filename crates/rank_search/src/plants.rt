@@ -2,7 +2,7 @@
 ghost use Rattle.std.specs.Prelude.{◌≡◌, ◌≤◌, ◌<◌, ◌+◌, ◌↔◌, ◌^◌, [], ◌∷◌, IsTrue, MatchBool, OnOk};
 ghost use Rattle.std.specs.Prelude.{IfSome, IfNone, length, take, option_copied};
 ghost use Rattle.rank_check.specs.rank_rules.Networks.{Repeats};
-ghost use Rattle.abb_search.specs.node_evaluation.Evaluated.{cost_over, cost_in};
+ghost use Rattle.abb_search.specs.branch_tree.Evaluated.{cost_over, cost_in};
 ghost use Rattle.abb_search.specs.node_evaluation.Looks.{cost_of};
 ghost use Rattle.rank_search.specs.Found.{undercut_by};
 ghost use Rattle.rank_search.specs.Plants.{IsInside, IsFirstInside, NoneInside, IsAdded};

@@ -23,7 +23,7 @@ use Rattle.search_tree.specs.Cells.{Cell, place_of, cell_at, times, numbers_belo
 use Rattle.search_tree.specs.Cells.{AreBehind, IsLinked}
 use Rattle.search_tree.specs.Fits.{Follows, IsBranch, EndFits, Fits}
 use Rattle.tree_laws.specs.tree_rules.Costs.{HasFallen}
-use Rattle.search_tree.specs.Values.{IsPositiveCost}
+use Rattle.branch_tree.specs.Values.{IsPositiveCost}
 use Rattle.search_tree.specs.Turns.{with_end, IsFreshChild, AreChildren, IsBranched, AreShut}
 use Rattle.search_tree.proofs.FractionLemmas.{fraction_trans}
 use Rattle.search_tree.proofs.LinkLemmas.{where_is}

@@ -19,7 +19,7 @@ use Rattle.search_tree.proofs.ValueLemmas.{ways_are_dearer}
 use Rattle.search_tree.specs.Cells.{Cell, place_of, cell_at}
 use Rattle.search_tree.specs.Growth.{EndsOpen}
 use Rattle.tree_laws.specs.tree_rules.Costs.{HasFallen}
-use Rattle.search_tree.specs.Values.{IsPositiveCost}
+use Rattle.branch_tree.specs.Values.{IsPositiveCost}
 use Rattle.search_tree.specs.Kept.{IsFromLast, ReachesLast, LeafIsKept, EndIsKept, IsKeptFor}
 use Rattle.search_tree.specs.Turns.{CanBranch, IsLeastOpen, AreChildren, IsBranched, AreShut}
 use Rattle.search_tree.proofs.GrowLemmas.{branched_fits, shut_fits, shut_linked}

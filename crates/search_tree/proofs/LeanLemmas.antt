@@ -30,7 +30,7 @@ use Rattle.search_tree.specs.Preorder.{IsPreorder, node_at, tree_of}
 use Rattle.search_tree.specs.Laws.{IsCell}
 use Rattle.search_tree.proofs.CountLemmas.{preorder_has_all}
 use Rattle.search_tree.proofs.PassLemmas.{passes, nodes_are_cells, cells_stand, aligned_start}
-use Rattle.search_tree.specs.Values.{IsPositive, IsUnder}
+use Rattle.branch_tree.specs.Values.{IsPositive, IsUnder}
 use Rattle.search_tree.specs.Kept.{IsFromLast, ReachesLast, LeafIsKept, EndIsKept, LastIsOfUse}
 use Rattle.search_tree.specs.Kept.{IsKeptFor}
 use Rattle.search_tree.specs.Turns.{CanBranch, IsLeastOpen}

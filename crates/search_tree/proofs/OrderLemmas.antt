@@ -7,7 +7,7 @@ use Rattle.tree_laws.specs.flow_rules.Net.{net_of}
 use Rattle.tree_laws.specs.flow_rules.Relaxed.{relaxed_cost}
 use Rattle.tree_laws.specs.tree_rules.Claim.{CostOver, IsAtMost}
 use Rattle.tree_laws.specs.tree_rules.Lean.{MayUndercut, HasCheaper, IsNoDearer}
-use Rattle.search_tree.specs.Values.{IsPositive, IsUnder, IsPositiveCost}
+use Rattle.branch_tree.specs.Values.{IsPositive, IsUnder, IsPositiveCost}
 use Rattle.tree_laws.specs.tree_rules.Costs.{IsNoMore}
 use Rattle.search_tree.proofs.FractionLemmas.{fraction_trans}
 

@@ -13,7 +13,7 @@ use Rattle.tree_laws.specs.tree_rules.Claim.{Claim, CostOver, claimed_cost}
 use Rattle.tree_laws.specs.tree_rules.Lean.{MayUndercut, IsNoDearer}
 use Rattle.search_tree.specs.Cells.{Cell, place_of, cell_at}
 use Rattle.search_tree.specs.Laws.{IsGrown}
-use Rattle.search_tree.specs.Values.{IsPositiveCost}
+use Rattle.branch_tree.specs.Values.{IsPositiveCost}
 
 -- the node branched last costs no more than this one; if no leaf was branched, any node will do
 abbrev pub IsFromLast : Problem → Option Node → Node → Type 0

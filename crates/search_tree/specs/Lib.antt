@@ -10,7 +10,6 @@ pub mod SearchLaws
 pub mod Shut
 pub mod TurnLaws
 pub mod Turns
-pub mod Values
 pub use Rattle.tree_laws.specs.tree_rules as tree_rules
 pub use Rattle.tree_laws.specs as tree_laws
 pub use Rattle.node_pool.specs.exact_numbers as exact_numbers

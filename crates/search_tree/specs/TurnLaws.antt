@@ -21,7 +21,7 @@ use Rattle.tree_laws.specs.tree_rules.Accepted.{IsAccepted}
 use Rattle.search_tree.specs.Cells.{Cell, place_of, cell_at}
 use Rattle.search_tree.specs.Growth.{as_parent, EndsOpen}
 use Rattle.search_tree.specs.Preorder.{IsPreorder, tree_of}
-use Rattle.search_tree.specs.Values.{IsPositive, IsUnder, IsPositiveCost}
+use Rattle.branch_tree.specs.Values.{IsPositive, IsUnder, IsPositiveCost}
 use Rattle.tree_laws.specs.tree_rules.Costs.{HasFallen}
 use Rattle.search_tree.specs.Kept.{IsKeptFor}
 use Rattle.search_tree.specs.Turns.{CanBranch, IsLeastOpen, AreChildren, IsBranched, AreShut}

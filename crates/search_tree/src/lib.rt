@@ -12,8 +12,8 @@
 //!
 //! A turn branches a cheapest leaf, or shuts leaves, and keeps what a search keeps. The tree of
 //! such a search is lean. It is accepted if no leaf is open, and spent if its budget does not last
-//! for the next branch. `specs/TurnLaws` has these laws: `Values` says what the value of a node is,
-//! `Kept` what a search keeps between two turns, and `Turns` what a turn does.
+//! for the next branch. `specs/TurnLaws` has these laws: `Values` of `branch_tree` says what the
+//! value of a node is, `Kept` what a search keeps between two turns, and `Turns` what a turn does.
 //!
 //! Each law is the contract of a function that does nothing; a proof elsewhere calls it to have the
 //! law.
@@ -41,7 +41,10 @@ mod turns;
 mod values;
 mod walk;
 
-pub use branch_tree::{Claim, Columns, End, Multipliers, Network, Scaled, Steps, Tree};
+pub use branch_tree::{
+    Bound, Claim, Columns, End, Evaluation, FirstLook, Interval, LowerBound, Multipliers, Network,
+    PastStop, Scaled, Steps, Tree,
+};
 pub use cell::Cell;
 pub use counts::{lean_is_few, options_are_counted, spent_is_never};
 pub use growth::{Fresh, branch};

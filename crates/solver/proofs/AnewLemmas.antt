@@ -7,7 +7,8 @@ use Rattle.flow_evaluator.specs.tree_rules.Claim as claims
 use Rattle.flow_evaluator.specs.tree_rules.Claim.{ClaimPasses}
 use Rattle.flow_evaluator.specs.tree_rules.Accepted.{Tree}
 use Rattle.flow_evaluator.specs.tree_rules.Costs.{HasFallen}
-use Rattle.flow_evaluator.specs.node_evaluation.Evaluated.{PastPlaces, IsAtHand}
+use Rattle.flow_evaluator.specs.branch_tree.Evaluated.{PastPlaces}
+use Rattle.flow_evaluator.specs.node_evaluation.Proofs.{IsAtHand}
 use Rattle.flow_evaluator.specs.node_evaluation.Looks.{cost_of}
 use Rattle.flow_evaluator.specs.node_evaluation.Children.{claim_with}
 use Rattle.rank_search.specs.abb_search.declared.outcome.Found.{Found}

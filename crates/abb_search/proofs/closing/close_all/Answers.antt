@@ -1,5 +1,5 @@
 use Rattle.std.proofs.Common.{refl, ◌∙◌, arith, subst}
-use Rattle.node_evaluation.specs.Evaluated.{cost_in}
+use Rattle.node_evaluation.specs.branch_tree.Evaluated.{cost_in}
 use Rattle.abb_search.specs.declared.closing.Shutting.{Shutting}
 use Rattle.abb_search.specs.Closing.{IsShutBy}
 use Rattle.abb_search.proofs.ClosingLemmas.{ShutsAt, below_first, below_next}

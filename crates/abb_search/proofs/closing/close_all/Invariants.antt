@@ -1,5 +1,5 @@
 use Rattle.std.proofs.Common.{◌≡◌}
-use Rattle.node_evaluation.specs.Evaluated.{cost_in}
+use Rattle.node_evaluation.specs.branch_tree.Evaluated.{cost_in}
 use Rattle.abb_search.proofs.ClosingLemmas.{AreSoBelow, ShutsAt}
 use Rattle.abb_search.proofs.closing.close_all.Given as goal
 

@@ -1,7 +1,7 @@
 use Rattle.std.proofs.Common.{Some, refl, sym, subst}
 use Rattle.node_evaluation.specs.pgraph.View.{node_of}
 use Rattle.node_evaluation.specs.tree_rules.Leaf.{IsBounded, Scaled}
-use Rattle.node_evaluation.specs.Evaluated.{cost_in}
+use Rattle.node_evaluation.specs.branch_tree.Evaluated.{cost_in}
 use Rattle.abb_search.proofs.ClosingLemmas.{low_proves, is_worth}
 use Rattle.abb_search.proofs.closing.proof_for.Goals as goal
 

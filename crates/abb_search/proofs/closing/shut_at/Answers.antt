@@ -6,7 +6,8 @@ use Rattle.node_evaluation.specs.pgraph.View.{node_of}
 use Rattle.node_evaluation.specs.unit_sets.declared.node.Node.{Node}
 use Rattle.node_evaluation.specs.tree_rules.Leaf.{Scaled}
 use Rattle.node_evaluation.specs.search_tree.Cells.{place_of, cell_at}
-use Rattle.node_evaluation.specs.Evaluated.{cost_in, IsBoundOf, IsProof}
+use Rattle.node_evaluation.specs.branch_tree.Evaluated.{cost_in, IsBoundOf}
+use Rattle.node_evaluation.specs.Proofs.{IsProof}
 use Rattle.abb_search.specs.declared.closing.Shutting.{Shutting}
 use Rattle.abb_search.specs.Closing.{ProvesLeaf, RefutesLeaf, IsShutBy}
 use Rattle.abb_search.proofs.ClosingLemmas.{hand_none, hand_some, lower_shuts, refuted_shuts}

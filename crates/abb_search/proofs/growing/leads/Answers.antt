@@ -1,8 +1,8 @@
 use Rattle.std.proofs.Common.{◌≡◌, true≢false, Some, sym, ap, ◌∙◌, subst, arith, Option}
 use Rattle.std.specs.Prelude.{option_copied}
 use Rattle.node_evaluation.specs.tree_rules.Costs.{IsNoMore}
-use Rattle.node_evaluation.specs.declared.evaluator.Interval.{Interval}
-use Rattle.node_evaluation.specs.Evaluated.{cost_over}
+use Rattle.node_evaluation.specs.branch_tree.declared.evaluation.Interval.{Interval}
+use Rattle.node_evaluation.specs.branch_tree.Evaluated.{cost_over}
 use Rattle.abb_search.specs.Worth.{interval_of}
 use Rattle.abb_search.specs.Growing.{ready_at, reached_by}
 use Rattle.abb_search.proofs.ReadyLemmas.{first_has, second_has}

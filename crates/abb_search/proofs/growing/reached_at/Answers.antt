@@ -1,6 +1,6 @@
 use Rattle.std.proofs.Common.{◌≡◌, Some, sym, ap, ◌∙◌, Option}
 use Rattle.std.specs.Prelude.{option_copied}
-use Rattle.node_evaluation.specs.declared.evaluator.Interval.{Interval}
+use Rattle.node_evaluation.specs.branch_tree.declared.evaluation.Interval.{Interval}
 use Rattle.abb_search.specs.Worth.{interval_of}
 use Rattle.abb_search.specs.Growing.{ready_at, reached_by}
 use Rattle.abb_search.proofs.TurnLemmas.{reached_value}

@@ -1,6 +1,6 @@
 use Rattle.std.proofs.Common.{Some, subst}
-use Rattle.node_evaluation.specs.search_tree.Values.{IsPositive, IsPositiveCost}
-use Rattle.node_evaluation.specs.Evaluated.{cost_in}
+use Rattle.node_evaluation.specs.branch_tree.Values.{IsPositive, IsPositiveCost}
+use Rattle.node_evaluation.specs.branch_tree.Evaluated.{cost_in}
 use Rattle.abb_search.specs.Closing.{AreBeaten}
 use Rattle.abb_search.specs.Rounds.{undercut_of, IsBeating}
 use Rattle.abb_search.proofs.ReadyLemmas.{first_has}

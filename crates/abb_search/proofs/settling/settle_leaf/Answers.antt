@@ -6,7 +6,7 @@ use Rattle.node_evaluation.specs.node_pool.Pooled.{Pooled}
 use Rattle.slab.specs.Slab.{get, Updates}
 use Rattle.node_evaluation.specs.search_tree.Cells.{Cell}
 use Rattle.node_evaluation.specs.declared.looks.Settling.{Settling}
-use Rattle.node_evaluation.specs.Evaluated.{IsBoundOf}
+use Rattle.node_evaluation.specs.branch_tree.Evaluated.{IsBoundOf}
 use Rattle.node_evaluation.specs.Looks.{IsSettling}
 use Rattle.node_evaluation.specs.declared.looks.Worth.TheVariants.{Settled, Refuted}
 use Rattle.abb_search.specs.Worth.{with_worth}

@@ -4,7 +4,7 @@ use Rattle.abb_search.specs.declared.outcome.Found.{Found}
 use Rattle.abb_search.specs.declared.outcome.Found.TheVariants as founds
 use Rattle.abb_search.specs.declared.growing.Growing.{Growing}
 use Rattle.abb_search.specs.declared.growing.StoppedLeaf.{StoppedLeaf}
-use Rattle.node_evaluation.specs.declared.evaluator.Interval.{Interval}
+use Rattle.node_evaluation.specs.branch_tree.declared.evaluation.Interval.{Interval}
 use Rattle.abb_search.specs.Growing.{interval_stop}
 use Rattle.abb_search.specs.Answers.{past_with, StepHolds}
 use Rattle.abb_search.proofs.EndLemmas.{past_found}

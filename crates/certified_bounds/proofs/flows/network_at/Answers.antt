@@ -6,7 +6,7 @@ use Rattle.std.specs.Ordering.{int_cmp, is_eq}
 use Rattle.scaled_flows.specs.exact_numbers.Number.{numerator, denominator}
 use Rattle.scaled_flows.proofs.exact_numbers.Cited.{fits_from_range}
 use Rattle.scaled_flows.specs.tree_rules.Claim.{Network, IsFeasible}
-use Rattle.certified_bounds.specs.Certified.{IsNetworkAt}
+use Rattle.branch_tree.specs.Evaluated.{IsNetworkOf}
 use Rattle.certified_bounds.proofs.FractionLemmas.{equal_from}
 use Rattle.certified_bounds.proofs.BoundLemmas.{network_of, same_cost}
 use Rattle.certified_bounds.proofs.flows.network_at.Goals as goal
@@ -42,12 +42,12 @@ returns-clause-found c =
     let positive : pos 1 ≤ℤ d = simp to_z-of_z at c.in-Some-cost_of_network.ensures.positive in
     let of_is : c.of.result ≡ network_of us d cost c.in_ok-sizes.sizes.items =
     simp to_z-of_z at c.of.ensures in
-    let whole : IsNetworkAt p v (network_of us d cost zs) = record {
+    let whole : IsNetworkOf p v (network_of us d cost zs) = record {
       feasible = feasible;
       positive = positive;
       costs = same_cost cost d found v top den equal;
     } in
-    subst (IsNetworkAt p v) (sym (of_is ∙ ap (λ (ys : List ℤ). network_of us d cost ys) kept)) whole
+    subst (IsNetworkOf p v) (sym (of_is ∙ ap (λ (ys : List ℤ). network_of us d cost ys) kept)) whole
 
 pub returns-clause-units : goal.returns-clause-units
 returns-clause-units c = ap (λ (w : Network). w.units) c.of.ensures

@@ -4,7 +4,7 @@ use Rattle.std.proofs.lemmas.Int.{to_z-of_z}
 use Rattle.scaled_flows.specs.pgraph.View.{node_of}
 use Rattle.scaled_flows.specs.tree_rules.Leaf.{IsBounded}
 use Rattle.scaled_flows.specs.exact_numbers.Number.{numerator, denominator}
-use Rattle.certified_bounds.specs.Certified.{cost_over}
+use Rattle.branch_tree.specs.Evaluated.{cost_over}
 use Rattle.certified_bounds.proofs.FractionLemmas.{over_one, le_from}
 use Rattle.certified_bounds.proofs.BoundLemmas.{reaches_less}
 use Rattle.certified_bounds.proofs.judged.reaches.Goals as goal

@@ -1,7 +1,7 @@
 use Rattle.std.proofs.Common.{◌≡◌, Some, sym, subst}
 use Rattle.scaled_flows.specs.pgraph.View.{node_of}
 use Rattle.scaled_flows.specs.tree_rules.Leaf.{IsBounded}
-use Rattle.certified_bounds.specs.Certified.{cost_over, IsLowBound}
+use Rattle.branch_tree.specs.Evaluated.{cost_over, IsLowerBoundOf}
 use Rattle.certified_bounds.proofs.FractionLemmas.{over_one}
 use Rattle.certified_bounds.proofs.BoundLemmas.{bounded_under}
 use Rattle.certified_bounds.proofs.lows.first_low.Goals as goal
@@ -20,7 +20,7 @@ returns c =
       basis =
           c.in_ok-basis.basis;
     } = c.in_ok-bound.ensures in
-    let whole : IsLowBound p n
+    let whole : IsLowerBoundOf p n
     (record {
       low = l.low;
       scaled = record { d = l.scale; ys = ys };
@@ -32,4 +32,4 @@ returns c =
           h;
       bounded = h;
     } in
-    subst (IsLowBound p n) (sym same) whole
+    subst (IsLowerBoundOf p n) (sym same) whole

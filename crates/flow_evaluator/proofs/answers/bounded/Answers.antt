@@ -3,7 +3,7 @@ use Rattle.dual_simplex.specs.pgraph.View.{node_of}
 use Rattle.dual_simplex.specs.flow_rules.Net.{net_of}
 use Rattle.dual_simplex.specs.flow_rules.Program.{Program, program_of}
 use Rattle.dual_simplex.specs.Bench.{IsLeastOf}
-use Rattle.node_evaluation.specs.Evaluated.{IsBoundOf}
+use Rattle.node_evaluation.specs.branch_tree.Evaluated.{IsBoundOf}
 use Rattle.node_evaluation.specs.tree_rules.Past.{IsPastAt}
 use Rattle.flow_evaluator.proofs.FlowLemmas.{bound_is}
 use Rattle.flow_evaluator.proofs.KnownLemmas.{stopped_is}

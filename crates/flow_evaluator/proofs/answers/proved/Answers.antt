@@ -1,7 +1,7 @@
 use Rattle.std.proofs.Common.{◌≡◌, Some, None, sym, subst}
 use Rattle.dual_simplex.specs.pgraph.View.{node_of}
 use Rattle.node_evaluation.specs.tree_rules.Leaf.{IsBounded}
-use Rattle.node_evaluation.specs.declared.evaluator.Bound.{Bound}
+use Rattle.node_evaluation.specs.branch_tree.declared.evaluation.Bound.{Bound}
 use Rattle.flow_evaluator.proofs.FlowLemmas.{bound_is, worth_proved}
 use Rattle.flow_evaluator.proofs.KnownLemmas.{unproved_is}
 use Rattle.flow_evaluator.proofs.answers.proved.Goals as goal

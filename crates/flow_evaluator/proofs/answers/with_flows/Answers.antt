@@ -8,10 +8,9 @@ use Rattle.dual_simplex.specs.flow_rules.Program.{Program, program_of}
 use Rattle.dual_simplex.specs.Bench.{IsLeastOf, AreFlowsOf}
 use Rattle.dual_simplex.specs.PastPlace.{IsPastFlowOf}
 use Rattle.node_evaluation.specs.tree_rules.Leaf.{IsFormed}
-use Rattle.node_evaluation.specs.declared.evaluator.Bound.{Bound}
+use Rattle.node_evaluation.specs.branch_tree.declared.evaluation.Bound.{Bound}
 use Rattle.node_evaluation.specs.tree_rules.Claim.{Network}
-use Rattle.node_evaluation.specs.tree_rules.Costs.{IsNoMore}
-use Rattle.node_evaluation.specs.Evaluated.{cost_over, cost_in, IsBoundOf, IsNetworkOf, HasUnits}
+use Rattle.node_evaluation.specs.branch_tree.Evaluated.{IsBoundOf, IsNetworkOf, HasUnits}
 use Rattle.node_evaluation.specs.tree_rules.Past.{IsPastAt}
 use Rattle.flow_evaluator.proofs.FlowLemmas.{IsValueAt, bound_is, network_with, network_is}
 use Rattle.flow_evaluator.proofs.FlowLemmas.{kept_value, kept_steps, is_split, units_inside}
@@ -99,9 +98,6 @@ returns-in_ok-network-in-Ok-clause-evaluated c =
       subst (IsBoundOf IsPastAt p n) (sym bound_same) bound,
       subst (λ (x : Bound). IsNetworkOf p x.value c.in_ok-network-in-Ok.network) (sym bound_same)
           (subst (IsNetworkOf p v) (sym network_same) network),
-      subst (λ (x : Bound). IsNoMore (cost_in c.in_ok-network-in-Ok.network) (cost_over x.low))
-          (sym bound_same)
-          (subst (λ (w : Network). IsNoMore (cost_in w) (cost_over v)) (sym network_same)
-          network.no_more),
+      subst (λ (x : Bound). x.low ≡ x.value) (sym bound_same) refl,
       subst (λ (w : Network). HasUnits n w) (sym network_same) (λ u. refl),
     )

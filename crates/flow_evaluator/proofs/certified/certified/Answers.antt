@@ -37,5 +37,5 @@ look-requires-clause-split c = λ is.
 
 pub returns : goal.returns
 returns c =
-    subst (λ (q : Problem). IfSome c.told.result (AnswersFor q c.args.set))
-    c.problem-problem.ensures.same c.told.ensures
+    subst (λ (q : Problem). IfSome c.answer.result (AnswersFor q c.args.set))
+    c.problem-problem.ensures.same c.answer.ensures

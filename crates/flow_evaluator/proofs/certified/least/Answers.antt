@@ -1,7 +1,7 @@
 use Rattle.std.proofs.Common.{Some, subst}
 use Rattle.dual_simplex.specs.exact_numbers.declared.number.Mixed.{Mixed}
 use Rattle.node_evaluation.specs.tree_rules.Leaf.{IsBounded}
-use Rattle.certified_bounds.specs.Certified.{cost_over}
+use Rattle.node_evaluation.specs.branch_tree.Evaluated.{cost_over}
 use Rattle.node_evaluation.specs.tree_rules.LeastFlows.{decided}
 use Rattle.flow_evaluator.proofs.CertifiedLemmas.{least_for}
 use Rattle.flow_evaluator.proofs.certified.least.Goals as goal

@@ -3,7 +3,8 @@ use Rattle.dual_simplex.specs.flow_rules.Cover as rules
 use Rattle.dual_simplex.specs.pgraph.View.{node_of}
 use Rattle.dual_simplex.specs.pgraph.declared.cover.Cover.{Cover}
 use Rattle.dual_simplex.specs.pgraph.CoversView.{covers_of}
-use Rattle.node_evaluation.specs.Evaluated.{cost_in, IsChargeOf}
+use Rattle.node_evaluation.specs.branch_tree.Evaluated.{cost_in}
+use Rattle.node_evaluation.specs.Proofs.{IsChargeOf}
 use Rattle.flow_evaluator.specs.Charging.{ReachesWith}
 use Rattle.flow_evaluator.proofs.ChargingLemmas.{kept_all, charge_is}
 use Rattle.flow_evaluator.proofs.charging.charged_by.Goals as goal

@@ -6,7 +6,7 @@ use Rattle.dual_simplex.specs.pgraph.View.{node_of}
 use Rattle.dual_simplex.specs.flow_rules.Net.{net_of}
 use Rattle.dual_simplex.specs.flow_rules.Relaxed.{rows}
 use Rattle.dual_simplex.specs.pgraph.CoversView.{covers_of}
-use Rattle.node_evaluation.specs.Evaluated.{cost_in}
+use Rattle.node_evaluation.specs.branch_tree.Evaluated.{cost_in}
 use Rattle.flow_evaluator.specs.Charging.{IsOwnCharge}
 use Rattle.flow_evaluator.proofs.ChargingLemmas.{few_covers, reaches_with}
 use Rattle.flow_evaluator.proofs.charging.reaches.Goals as goal

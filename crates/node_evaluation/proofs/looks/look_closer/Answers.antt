@@ -3,7 +3,7 @@ use Rattle.structure_list.specs.pns_rules.Shape.{shape_of}
 use Rattle.node_evaluation.specs.Choices.{IsChoice}
 use Rattle.search_tree.specs.tree_rules.Leaf.{refuted, untried, IsUntried, IsRefuted}
 use Rattle.node_evaluation.specs.declared.looks.Worth.TheVariants.{Settled}
-use Rattle.node_evaluation.specs.Evaluated.{IsBoundOf, HasUnits}
+use Rattle.search_tree.specs.branch_tree.Evaluated.{IsBoundOf, HasUnits}
 use Rattle.search_tree.specs.Cells.{Cell, place_of}
 use Rattle.node_evaluation.proofs.LookLemmas.{seen_open, seen_solved, seen_closed}
 use Rattle.node_evaluation.proofs.looks.look_closer.Goals as goal

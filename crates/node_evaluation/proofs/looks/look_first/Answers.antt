@@ -4,7 +4,7 @@ use Rattle.node_evaluation.specs.Choices.{IsChoice}
 use Rattle.search_tree.specs.tree_rules.Leaf.{refuted, untried, IsUntried, IsRefuted}
 use Rattle.search_tree.specs.Cells.{Cell, place_of}
 use Rattle.node_evaluation.specs.declared.looks.Worth.TheVariants.{AtLeast}
-use Rattle.node_evaluation.specs.Evaluated.{IsLowerBoundOf}
+use Rattle.search_tree.specs.branch_tree.Evaluated.{IsLowerBoundOf}
 use Rattle.node_evaluation.proofs.LookLemmas.{seen_open, seen_closed}
 use Rattle.node_evaluation.proofs.looks.look_first.Goals as goal
 

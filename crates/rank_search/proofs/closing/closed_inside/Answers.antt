@@ -1,5 +1,5 @@
 use Rattle.std.proofs.Common.{◌≡◌, Option, Some, None, refl, ap, ◌∙◌, subst, rules}
-use Rattle.abb_search.specs.node_evaluation.Evaluated.{cost_in}
+use Rattle.abb_search.specs.branch_tree.Evaluated.{cost_in}
 use Rattle.abb_search.specs.declared.closing.Shutting.{Shutting}
 use Rattle.abb_search.specs.declared.closing.Shutting.TheVariants as shuttings
 use Rattle.abb_search.specs.search_tree.declared.shut.Shut.{Shut}

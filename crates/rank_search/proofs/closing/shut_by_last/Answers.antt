@@ -1,7 +1,7 @@
 use Rattle.std.proofs.Common.{◌≡◌, Some, None, sym, ◌∙◌, rules}
 use Rattle.abb_search.specs.link_lists.Lists.{first}
 use Rattle.rank_check.specs.tree_rules.Costs.{IsNoMore}
-use Rattle.abb_search.specs.node_evaluation.Evaluated.{cost_in, cost_over}
+use Rattle.abb_search.specs.branch_tree.Evaluated.{cost_in, cost_over}
 use Rattle.abb_search.proofs.Cited.{first_has, first_is_least, beaten_by}
 use Rattle.rank_search.proofs.closing.shut_by_last.Goals as goal
 

@@ -1,7 +1,7 @@
 use Rattle.std.proofs.Common.{◌≡◌, sym, ap, ◌∙◌, subst, Option, Some, None}
 use Rattle.abb_search.specs.declared.growing.StoppedLeaf.{StoppedLeaf}
 use Rattle.abb_search.specs.declared.rounds.Next.{Next}
-use Rattle.abb_search.specs.node_evaluation.declared.evaluator.Interval.{Interval}
+use Rattle.abb_search.specs.branch_tree.declared.evaluation.Interval.{Interval}
 use Rattle.abb_search.specs.Growing.{IsStoppedAt, interval_stop}
 use Rattle.abb_search.proofs.Cited.{there, hand, stops_there}
 use Rattle.abb_search.specs.declared.rounds.Next.TheVariants as nexts

@@ -1,11 +1,11 @@
 use Rattle.std.proofs.Common.{◌≡◌, sym, ap, ◌∙◌, subst, Option, Some, None}
 use Rattle.rank_check.specs.problem_rules.Problem.{Problem}
 use Rattle.rank_check.specs.tree_rules.Claim.{CostOver}
-use Rattle.abb_search.specs.node_evaluation.Evaluated.{PastPlaces}
+use Rattle.abb_search.specs.branch_tree.Evaluated.{PastPlaces}
 use Rattle.abb_search.specs.declared.growing.Growing.{Growing}
 use Rattle.abb_search.specs.declared.growing.StoppedLeaf.{StoppedLeaf}
 use Rattle.abb_search.specs.declared.rounds.Next.{Next}
-use Rattle.abb_search.specs.node_evaluation.declared.evaluator.Interval.{Interval}
+use Rattle.abb_search.specs.branch_tree.declared.evaluation.Interval.{Interval}
 use Rattle.abb_search.specs.Growing.{IsGrowingFor, IsStoppedAt, interval_stop}
 use Rattle.abb_search.proofs.Cited.{there, hand, stops_there}
 use Rattle.abb_search.specs.declared.rounds.Next.TheVariants as nexts

@@ -3,7 +3,7 @@ use Rattle.std.specs.Int.{w128}
 use Rattle.std.proofs.lemmas.Int.{to_z-of_z}
 use Rattle.scaled_flows.specs.pgraph.View.{node_of}
 use Rattle.scaled_flows.specs.exact_numbers.Number.{numerator, denominator}
-use Rattle.certified_bounds.specs.Certified.{cost_over}
+use Rattle.branch_tree.specs.Evaluated.{cost_over}
 use Rattle.certified_bounds.proofs.FractionLemmas.{over_one, no_more_of_same}
 use Rattle.certified_bounds.proofs.BoundLemmas.{found_weaker, reaches_less}
 use Rattle.certified_bounds.proofs.bounds.CertifiedBounds.prove.Goals as goal

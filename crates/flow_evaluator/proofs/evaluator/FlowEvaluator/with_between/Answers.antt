@@ -1,11 +1,11 @@
 use Rattle.std.proofs.Common.{Some, IfSome, Option, subst}
 use Rattle.dual_simplex.specs.pgraph.View.{node_of}
-use Rattle.certified_bounds.specs.declared.certified.Between.{Between}
+use Rattle.certified_bounds.specs.declared.between.Between.{Between}
 use Rattle.certified_bounds.specs.Certified.{IsBetween}
-use Rattle.node_evaluation.specs.Evaluated.{IsEvaluated}
-use Rattle.node_evaluation.specs.declared.evaluator.Evaluation.TheVariants.{Stopped}
+use Rattle.node_evaluation.specs.branch_tree.Evaluated.{IsEvaluated}
+use Rattle.node_evaluation.specs.branch_tree.declared.evaluation.Evaluation.TheVariants.{Stopped}
 use Rattle.node_evaluation.specs.tree_rules.Past.{IsPastAt}
-use Rattle.flow_evaluator.proofs.ToldLemmas.{between_is}
+use Rattle.flow_evaluator.proofs.WithoutPathLemmas.{between_is}
 use Rattle.flow_evaluator.proofs.evaluator.FlowEvaluator.with_between.Goals as goal
 
 pub returns-in-Some-clause-evaluated : goal.returns-in-Some-clause-evaluated
@@ -18,6 +18,5 @@ returns-in-Some-clause-evaluated c =
     subst (λ (o : Option Between). IfSome o (IsBetween p n)) c.in-Some.is
     c.in_ok-between-in-Stopped.ensures.between in (
       c.if-decided.false,
-      between_is c.relaxed_duality.ensures p n c.in-Some.between c.in-Stopped.stop
-          c.bound_between.result c.bound_between.ensures found past,
+      between_is c.relaxed_duality.ensures p n c.in-Some.between c.in-Stopped.stop found past,
     )

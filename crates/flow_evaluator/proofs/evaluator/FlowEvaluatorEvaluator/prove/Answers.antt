@@ -1,4 +1,4 @@
-use Rattle.node_evaluation.specs.Evaluated.{cost_in}
+use Rattle.node_evaluation.specs.branch_tree.Evaluated.{cost_in}
 use Rattle.flow_evaluator.proofs.evaluator.FlowEvaluatorEvaluator.prove.Goals as goal
 
 pub returns-clause-proved : goal.returns-clause-proved

@@ -1,11 +1,11 @@
 -- Values of nodes: a number over another, as costs are, compared by cross products.
 use Rattle.std.specs.Prelude.{ℕ, ℤ, pos, ◌*ℤ◌, ◌≤ℤ◌, Option, Some, None}
-use Rattle.tree_laws.specs.problem_rules.Problem.{Problem}
-use Rattle.tree_laws.specs.pns_rules.Nodes.{Node}
-use Rattle.tree_laws.specs.flow_rules.Net.{net_of}
-use Rattle.tree_laws.specs.flow_rules.Relaxed.{IsRelaxed, relaxed_cost}
-use Rattle.tree_laws.specs.tree_rules.Claim.{CostOver}
-use Rattle.tree_laws.specs.tree_rules.Lean.{HasCheaper}
+use Rattle.tree_rules.specs.problem_rules.Problem.{Problem}
+use Rattle.tree_rules.specs.pns_rules.Nodes.{Node}
+use Rattle.tree_rules.specs.flow_rules.Net.{net_of}
+use Rattle.tree_rules.specs.flow_rules.Relaxed.{IsRelaxed, relaxed_cost}
+use Rattle.tree_rules.specs.Claim.{CostOver}
+use Rattle.tree_rules.specs.Lean.{HasCheaper}
 
 -- what the value is over is above 0
 abbrev pub IsPositive : CostOver → Type 0
