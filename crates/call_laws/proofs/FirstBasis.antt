@@ -9,15 +9,14 @@ use Rattle.std.proofs.lemmas.Bool.Decides.{leb_tells}
 use Rattle.studio.proofs.integer_laws.Cited.{total_below-same, total_below-zero, V, ◌⊗◌, ring}
 use Rattle.studio.specs.flow_rules.LinearProgram.{LinearProgram, low_flow}
 use Rattle.studio.specs.flow_rules.Columns.{Basis, Has, start, x_at, s_at, t_at, w_at, columns}
-use Rattle.studio.specs.flow_rules.Columns.{right_at}
-use Rattle.studio.specs.flow_rules.Columns.{scale_at}
+use Rattle.studio.specs.flow_rules.Columns.{right_at, scale_at}
 use Rattle.studio.specs.flow_rules.Start.{IsStart}
 use Rattle.studio.specs.flow_rules.Tableau.{IsTableau}
 use Rattle.studio.specs.flow_rules.Pivots.{HasPivot, IsFeasible}
 use Rattle.studio.specs.flow_rules.Path.{IsLast}
-use Rattle.studio.proofs.path_laws.Cited.{start-has, one-same, one-other, start_tableau, start_rows}
-use Rattle.studio.proofs.path_laws.Cited.{start_exists, agree, last_same, feasible_is_last}
-use Rattle.studio.proofs.path_laws.Cited.{feasible_no_pivot}
+use Rattle.studio.proofs.path_laws.Cited.{start-has, one-same, one-other, start_is_tableau}
+use Rattle.studio.proofs.path_laws.Cited.{start_rows, start_exists, agree, last_same}
+use Rattle.studio.proofs.path_laws.Cited.{feasible_is_last, feasible_no_pivot}
 
 -- what holds of the numbers of such a program
 pub record StartsFeasible (p : LinearProgram) : Type 0 where
@@ -58,7 +57,7 @@ module _ (p : LinearProgram) where
   is_start T t =
       let s = start_exists p in
       let a : (c k : ℕ) → Has (start p) c → k ≤ scale_at p → T c k ≡ start_rows p c k
-      = agree p 0 (start p) (λ i. refl) T (start_rows p) t (start_tableau p (start_rows p) s) in
+      = agree p 0 (start p) (λ i. refl) T (start_rows p) t (start_is_tableau p (start_rows p) s) in
       record {
         own = λ c k h l m n. a c k h m ∙ s.own c k h l m n;
         s_x = λ i k h l. a (s_at p i) (x_at p k) (has_s i h) (omega arith) ∙ s.s_x i k h l;
@@ -149,7 +148,7 @@ module _ (p : LinearProgram) where
         fun_ext
         (last_same p b (start p) l
         (feasible_is_last p 0 (start p) (λ i. refl) (start_rows p)
-        (start_tableau p (start_rows p) s) (feasible (start_rows p) s small)))
+        (start_is_tableau p (start_rows p) s) (feasible (start_rows p) s small)))
 
     pub no_pivot : (T : ℕ → ℕ → ℤ) → IsTableau p (start p) T → (l e : ℕ) (pivot : ℕ → ℤ)
         → HasPivot p (start p) T l e pivot → ⊥

@@ -1,16 +1,20 @@
 -- The laws of the flows that a bench keeps.
 use Rattle.std.proofs.Common.{◌≡◌, ℤ, ◌*ℤ◌, Bool, true, false, not, ◌||◌, refl, sym, ap, ◌∙◌, subst}
 use Rattle.flow_program.proofs.number_sets.Cited.{listed-same}
+use Rattle.flow_program.specs.problem_rules.Problem.{Problem}
+use Rattle.flow_program.specs.problem_rules.Validity.{IsValid}
+use Rattle.flow_program.specs.pns_rules.Nodes.{Node}
 use Rattle.flow_program.specs.flow_rules.Net.{net_of, beside}
 use Rattle.flow_program.specs.flow_rules.Program.{Program, program_of}
-use Rattle.flow_program.specs.flow_rules.Relaxed.{stays, units}
+use Rattle.flow_program.specs.flow_rules.Relaxed.{relaxed_cost, bound, rows, IsRelaxed, stays}
+use Rattle.flow_program.specs.flow_rules.Relaxed.{units}
 use Rattle.flow_program.specs.flow_rules.LinearProgram.{linear_of}
 use Rattle.flow_program.specs.flow_rules.ReadFlows.{AreRead}
 use Rattle.path_laws.proofs.Cited as law
 use Rattle.dual_simplex.specs.Rows.{table, basis}
-use Rattle.dual_simplex.specs.Bench.{Bench, AreFlowsOf}
-use Rattle.dual_simplex.specs.FlowLaws.{FlowsAreRelaxed, FlowsAreLeast, UnitsAreInside}
-use Rattle.dual_simplex.specs.FlowLaws.{SplitIsDecided, SplitFlowsAreFlows, SplitFlowsAreLeast}
+use Rattle.dual_simplex.specs.Bench.{IsLeastOf, Bench, AreFlowsOf}
+use Rattle.dual_simplex.specs.FlowLaws.{UnitsAreInside, SplitIsDecided, SplitFlowsAreFlows}
+use Rattle.dual_simplex.specs.FlowLaws.{SplitFlowsAreLeast}
 use Rattle.dual_simplex.proofs.LawLemmas.{ends_least}
 
 read_of : (q r : Program) (b : Bench) → q ≡ r → AreFlowsOf q b
@@ -19,13 +23,20 @@ read_of q r b e f =
     subst (λ (s : Program). AreRead (linear_of s) (basis b.rows) (table b.rows) b.flows b.flow_den)
     e f.read
 
-pub flows_are_relaxed : FlowsAreRelaxed
+-- they are relaxed flows
+pub flows_are_relaxed : (p : Problem) → IsValid p → (n : Node) (q : Program) (b : Bench)
+    → q ≡ program_of (net_of p) n → IsLeastOf q b → AreFlowsOf q b
+    → IsRelaxed (net_of p) n (beside (units (net_of p) n) b.flows) b.flow_den
 flows_are_relaxed p v n q b e h f =
     law.read_flows_are_relaxed p v n (basis b.rows) (table b.rows) b.d b.ys
     (ends_least (net_of p) n q b e h) b.flows b.flow_den
     (read_of q (program_of (net_of p) n) b e f)
 
-pub flows_are_least : FlowsAreLeast
+-- their cost is the bound of the multipliers
+pub flows_are_least : (p : Problem) → IsValid p → (n : Node) (q : Program) (b : Bench)
+    → q ≡ program_of (net_of p) n → IsLeastOf q b → AreFlowsOf q b
+    → b.flow_den *ℤ bound (net_of p) n b.d (beside (rows (net_of p) n) b.ys)
+    ≡ b.d *ℤ relaxed_cost (net_of p) n (beside (units (net_of p) n) b.flows) b.flow_den
 flows_are_least p v n q b e h f =
     law.read_flows_are_least p v n (basis b.rows) (table b.rows) b.d b.ys
     (ends_least (net_of p) n q b e h) b.flows b.flow_den

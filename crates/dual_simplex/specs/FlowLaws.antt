@@ -7,25 +7,10 @@ use Rattle.flow_program.specs.pns_rules.Nodes.{Node}
 use Rattle.flow_program.specs.flow_rules.Net.{Net, net_of, beside, units_of}
 use Rattle.flow_program.specs.flow_rules.Flows.{IsFlows, cost}
 use Rattle.flow_program.specs.flow_rules.Program.{Program, program_of}
-use Rattle.flow_program.specs.flow_rules.Relaxed.{IsRelaxed, relaxed_cost, bound, units, rows}
+use Rattle.flow_program.specs.flow_rules.Relaxed.{bound, units, rows}
 use Rattle.flow_program.specs.flow_rules.Places.{IsDecided}
 use Rattle.path_laws.specs.Ends.{IsSplit}
 use Rattle.dual_simplex.specs.Bench.{Bench, IsLeastOf, AreFlowsOf}
-
--- they are relaxed flows
-abbrev pub FlowsAreRelaxed : Type 0
-FlowsAreRelaxed =
-    (p : Problem) → IsValid p → (n : Node) (q : Program) (b : Bench) → q ≡ program_of (net_of p) n
-    → IsLeastOf q b → AreFlowsOf q b
-    → IsRelaxed (net_of p) n (beside (units (net_of p) n) b.flows) b.flow_den
-
--- their cost is the bound of the multipliers
-abbrev pub FlowsAreLeast : Type 0
-FlowsAreLeast =
-    (p : Problem) → IsValid p → (n : Node) (q : Program) (b : Bench) → q ≡ program_of (net_of p) n
-    → IsLeastOf q b → AreFlowsOf q b
-    → b.flow_den *ℤ bound (net_of p) n b.d (beside (rows (net_of p) n) b.ys)
-    ≡ b.d *ℤ relaxed_cost (net_of p) n (beside (units (net_of p) n) b.flows) b.flow_den
 
 -- ---- if each unit is either taken in or left out
 

@@ -8,11 +8,6 @@ use Rattle.flow_program.specs.pns_rules.Nodes.{Node}
 use Rattle.flow_program.specs.flow_rules.Net.{net_of, beside}
 use Rattle.flow_program.specs.flow_rules.Program.{Program, program_of}
 use Rattle.flow_program.specs.flow_rules.Relaxed.{IsRelaxed, relaxed_cost, bound, Refutes, rows}
-use Rattle.flow_program.specs.integer_laws.declared.which.Which.{Which}
-use Rattle.flow_program.specs.flow_rules.LinearProgram.{LinearProgram}
-use Rattle.flow_program.specs.flow_rules.Path.{IsLast}
-use Rattle.dual_simplex.specs.Rows.{Rows, basis}
-use Rattle.dual_simplex.specs.Walk.{EndsFeasible, EndsRefuting, EndsPast}
 use Rattle.dual_simplex.specs.Bench.{Bench, IsLeastOf, IsNoneOf}
 
 -- the scale of the multipliers is at least 1
@@ -43,16 +38,3 @@ abbrev pub NoneIsRefuted : Type 0
 NoneIsRefuted =
     (p : Problem) → IsValid p → (n : Node) (q : Program) (b : Bench) → q ≡ program_of (net_of p) n
     → IsNoneOf q b → Refutes (net_of p) n (beside (rows (net_of p) n) b.ys)
-
--- ---- whatever it answers, the basis that is kept is the last of the path
-
-abbrev pub FeasibleIsLast : Type 0
-FeasibleIsLast = (p : LinearProgram) (r : Rows) → EndsFeasible p r → IsLast p (basis r)
-
-abbrev pub RefutingIsLast : Type 0
-RefutingIsLast = (p : LinearProgram) (r : Rows) (row : ℕ) → EndsRefuting p r row
-    → IsLast p (basis r)
-
-abbrev pub PastIsLast : Type 0
-PastIsLast = (p : LinearProgram) (r : Rows) (leaves enters row j : ℕ) (which : Which)
-    → EndsPast p r leaves enters row j which → IsLast p (basis r)

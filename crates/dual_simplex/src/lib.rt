@@ -50,9 +50,7 @@ pub use flow_program::{
     checked_difference, checked_product, checked_sum, cost_of, feasible, lowest_terms, rate_at,
     refutation, refutes, relaxed_duality, sets_of, sums_are_last, valid_is_proper, weak_duality,
 };
-pub use laws::{
-    flows_are_least, kept_basis_is_last, least_is_least, none_is_refuted, split_flows_are_least,
-};
+pub use laws::{least_is_least, none_is_refuted, split_flows_are_least};
 pub use past_laws::{
     balance_is_past, bound_is_past, cost_is_past, entry_is_past, flow_is_past,
     names_are_of_program, refutation_is_past,

@@ -168,6 +168,7 @@ stays_well : (p : Problem) → IsWell p → (e : Edit) → IsFormed e → AreCle
     → IsWell (effect p e)
 stays_well p w e g h = record { sound = stays_sound p w.sound e h; good = stays_formed p w e g h }
 
+-- the problem after an edit without a fault is valid
 pub edit_keeps_valid : (p : Problem) → IsValid p → (e : Edit) → IsFormed e → AreClear (checks p e)
     → IsValid (effect p e)
 edit_keeps_valid p v e g h = valid_from_well (effect p e) (stays_well p (well_from_valid p v) e g h)

@@ -4,15 +4,8 @@ use Rattle.edit_rules.specs.problem_rules.Problem.{Problem}
 use Rattle.edit_rules.specs.problem_rules.Each.{Each}
 use Rattle.edit_rules.specs.problem_rules.Validity.{IsValid}
 use Rattle.edit_rules.specs.Edit.{Edit}
-use Rattle.edit_rules.specs.Effect.{effect}
-use Rattle.edit_rules.specs.Fault.{checks, AreClear}
 use Rattle.edit_rules.specs.Formed.{IsFormed}
 use Rattle.edit_rules.specs.Script.{applied, CanApply, undoing, LeadsTo}
-
--- the problem after an edit without a fault is valid
-abbrev pub EditsKeepValid : Type 0
-EditsKeepValid = (p : Problem) → IsValid p → (e : Edit) → IsFormed e → AreClear (checks p e)
-    → IsValid (effect p e)
 
 -- of edits that a problem takes: the problem after them is valid, and the edits that undo them have
 -- no fault of form and lead back to the problem before, with its items at their old places

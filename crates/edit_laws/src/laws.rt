@@ -1,11 +1,5 @@
 //! The laws as contracts: a call gives its law to a proof, and does nothing.
-ghost use Rattle.edit_laws.specs.Laws.{EditsKeepValid, ScriptsAreUndone};
-
-/// The problem after an edit without a fault is valid, and so is the problem after each line of a
-/// script.
-pub fn edits_keep_valid()
-    ensures { EditsKeepValid }
-{}
+ghost use Rattle.edit_laws.specs.Laws.{ScriptsAreUndone};
 
 /// For every valid problem and all edits that it takes one after another: the problem after them is
 /// valid, and the edits that undo them have no fault of form. The problem after them takes these

@@ -4,8 +4,8 @@ use Rattle.std.proofs.Common.{map, refl, sym, ap, ap₂, ◌∙◌, subst, inl, 
 use Rattle.std.proofs.Common.{ne_eqb, arith}
 use Rattle.std.proofs.lemmas.Bool.{or_cases, and_parts, both_ways, false_from_ne_true, cases_eq}
 use Rattle.std.specs.List.{insert}
-use Rattle.link_lists.specs.Lists.{row, has, without, list_with, place_in, vacancy, filled, IsOnce}
-use Rattle.link_lists.specs.Lists.{RelinkUndoesUnlink, UnlinkKeepsApart}
+use Rattle.link_lists.specs.Lists.{relinked, IsListed, unlinked, Rows, AreApart, row, has, without}
+use Rattle.link_lists.specs.Lists.{list_with, place_in, vacancy, filled, IsOnce}
 use Rattle.link_lists.proofs.Cells.{has-without, without-none, without-later, IsOnce-without}
 use Rattle.link_lists.proofs.Cells.{row-without}
 
@@ -78,14 +78,17 @@ filled_back (xs ∷ ls) c l once apart h = by (λ m o a q. filled_back ls c m o 
         ∙ ap₂ (λ ys rs. ys ∷ rs) (insert_back c xs (once 0) q) (rows_without c ls (none q))
     by ih false q = ap at q ∙ ap₂ (λ ys rs. ys ∷ rs) (without-none c xs q) (rest ih q l refl)
 
-pub relink_undoes_unlink : RelinkUndoesUnlink
+-- relinking gives the lists before the unlinking, and the stack too
+pub relink_undoes_unlink : (r : Rows) (c : ℕ) → AreApart r.lists → IsListed r.lists c
+    → relinked (unlinked r c) ≡ r
 relink_undoes_unlink r c a listed = λ k. record {
   cells = r.cells;
   lists = filled_back r.lists c listed.list a.once a.apart listed.there k;
   stack = r.stack;
 }
 
-pub unlink_keeps_apart : UnlinkKeepsApart
+-- lists stay apart when a cell leaves
+pub unlink_keeps_apart : (ls : List (List ℕ)) (c : ℕ) → AreApart ls → AreApart (map (without c) ls)
 unlink_keeps_apart ls c a = record {
   once = λ l. subst IsOnce (sym (row-without c ls l)) (IsOnce-without c (row ls l) (a.once l));
   apart = λ l m d p q. a.apart l m d (still l d p) (still m d q);

@@ -140,12 +140,3 @@ pub record AreApart (ls : List (List ℕ)) : Type 0 where
 -- each cell of the lists is below n
 abbrev pub AreBelow : ℕ → List (List ℕ) → Type 0
 AreBelow n ls = (l c : ℕ) → has (row ls l) c ≡ true → c < n
-
--- relinking gives the lists before the unlinking, and the stack too
-abbrev pub RelinkUndoesUnlink : Type 0
-RelinkUndoesUnlink = (r : Rows) (c : ℕ) → AreApart r.lists → IsListed r.lists c
-    → relinked (unlinked r c) ≡ r
-
--- lists stay apart when a cell leaves
-abbrev pub UnlinkKeepsApart : Type 0
-UnlinkKeepsApart = (ls : List (List ℕ)) (c : ℕ) → AreApart ls → AreApart (map (without c) ls)

@@ -14,14 +14,17 @@ use Rattle.node_evaluation.specs.declared.choice.Choice.{Choice}
 use Rattle.node_evaluation.specs.declared.choice.Choice.TheVariants as choices
 use Rattle.node_evaluation.specs.Choices.{IsChoice, way_of, option_count}
 
+-- a node may be branched by each choice
 pub may_branch : (g : Shape) (n : Node) (c : Choice) → IsChoice g n c → MayBranch g n (way_of c)
 may_branch g n (choices.Material x) h = h.0.needed
 may_branch g n (choices.Unit u) h = (h.known, h.free)
 
+-- there is something to decide by it
 pub decides : (g : Shape) (n : Node) (c : Choice) → IsChoice g n c → IsDecision g n (way_of c)
 decides g n (choices.Material x) h = let three = h.1 in omega (arith, three)
 decides g n (choices.Unit u) h = (h.material, h.needed, h.makes)
 
+-- and it has two or three options, as the choice says
 pub option_count_is : (g : Shape) (n : Node) (c : Choice) → IsChoice g n c
     → length (options_at g n (way_of c)) ≡ option_count c
 option_count_is g n (choices.Material x) h = h.1

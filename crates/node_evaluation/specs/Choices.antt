@@ -5,8 +5,7 @@ use Rattle.structure_list.specs.pns_rules.Shape.{Shape}
 use Rattle.structure_list.specs.pns_rules.Structure.{is_needed}
 use Rattle.structure_list.specs.pns_rules.Nodes.{Node, is_free, options}
 use Rattle.structure_list.specs.pns_rules.Ends.{IsUndecided}
-use Rattle.search_tree.specs.tree_rules.Ways.{Way, at_material, either, MayBranch, IsDecision}
-use Rattle.search_tree.specs.tree_rules.Ways.{options_at}
+use Rattle.search_tree.specs.tree_rules.Ways.{Way, at_material, either}
 use Rattle.node_evaluation.specs.declared.choice.Choice.{Choice}
 use Rattle.node_evaluation.specs.declared.choice.Choice.TheVariants as choices
 
@@ -30,9 +29,3 @@ way_of (choices.Unit u) = either u
 abbrev pub option_count : Choice → ℕ
 option_count (choices.Material x) = 3
 option_count (choices.Unit u) = 2
-
-abbrev pub ChoicesDecide : Type 0
-ChoicesDecide =
-    (g : Shape) (n : Node) (c : Choice) → IsChoice g n c
-    → MayBranch g n (way_of c) × IsDecision g n (way_of c)
-    × (length (options_at g n (way_of c)) ≡ option_count c)

@@ -10,13 +10,13 @@
 //! [`choose`] says how an open leaf is branched: at a material, or in two at one unit. To keep the
 //! tree small, it splits a leaf at a unit that owes most of its fixed cost, by the sizes of the
 //! last basis. That rule is only a guide. [`choose`] promises that there is something to decide
-//! there ([`choices_decide`]), and that the children are two or three. It takes no memory.
+//! there, and that the children are two or three (`proofs/ChoiceLemmas`). It takes no memory.
 //!
 //! Modules of a look: `evaluator` the trait and its answers; `looks` a look at a node; `children` a
 //! look at all children; `options` the options of a choice; `costs` costs compared; `workspace`
 //! what a search works with. Modules of a choice: `choice` the rule; `dues` what units and
 //! materials owe; `candidates` the unit of the greatest score; `paths` units in use that lead to no
-//! product; `laws`.
+//! product.
 #![tactic(auto)]
 
 mod candidates;
@@ -25,7 +25,6 @@ mod choice;
 mod costs;
 mod dues;
 mod evaluator;
-mod laws;
 mod looks;
 mod options;
 mod paths;
@@ -39,7 +38,6 @@ pub use costs::is_no_more;
 pub use evaluator::{
     Bound, Charged, Evaluation, Evaluator, FirstLook, Interval, LowerBound, PastStop, Proof,
 };
-pub use laws::choices_decide;
 pub use looks::{Looked, Ready, Settling, Worth, look, open_cell, settle};
 pub use search_tree::{
     Cell, Claim, Columns, End, Fresh, Mixed, Multipliers, Network, Pool, Scaled, Shut, Steps, Tree,

@@ -17,7 +17,7 @@ use Rattle.flow_rules.specs.Columns.{Basis, Has, x_at, columns, scale_at}
 use Rattle.flow_rules.specs.Multipliers.{multiplier}
 use Rattle.flow_rules.specs.ReadFlows.{AreRead, size}
 use Rattle.path_laws.proofs.PathLemmas.{IsSound, reaches_sound}
-use Rattle.path_laws.proofs.PhaseLemmas.{complete_along}
+use Rattle.path_laws.proofs.PhaseLemmas.{path_is_complete}
 use Rattle.path_laws.specs.Ends.{IsOnPath, EndsLeast}
 use Rattle.path_laws.specs.EndLaws.{ScaleIsPositive, BoundIsReached, BoundIsLeast}
 use Rattle.path_laws.specs.EndLaws.{ReadFlowsAreRelaxed, ReadFlowsAreLeast, RowRefutes}
@@ -120,7 +120,7 @@ module _ (p : Problem) (valid : IsValid p) (n : Node) (b : Basis) (T : ℕ → �
   basic v m s =
       least_at lp b T (is_open net n (net_of_valid p valid)) (unitary net n b T end.on_path)
       ((end.on_path.is_tableau (scale_at lp) sound.scale).combination)
-      (complete_along lp end.on_path.pivots b end.on_path.reached T end.on_path.is_tableau)
+      (path_is_complete lp end.on_path.pivots b end.on_path.reached T end.on_path.is_tableau)
       end.feasible.costs end.feasible.values
       (inside net n b T end.on_path) weak v m s
 

@@ -73,10 +73,10 @@ s_rising p b T i n = record {
     flip h = omega (arith, ints)
 
 -- once no unit is left, each column outside the basis rises
-pub first_phase_rising : (p : LinearProgram) (b : Basis) (T : ℕ → ℕ → ℤ)
+pub first_phase_ends : (p : LinearProgram) (b : Basis) (T : ℕ → ℕ → ℤ)
     → IsFirstPhase p b T p.units → (j : ℕ) → j < columns p → b j ≡ false
     → IsRising (suc (columns p)) (gain b T (scale_at p) j)
-first_phase_rising p b T ph j h f =
+first_phase_ends p b T ph j h f =
     elim (leb_tells (suc j) p.units) [
       | inl (_, l) ↦ elim (ph.done j (omega arith) (omega arith)) [
         | inl n ↦ absurd (clash (b j) n.basic f)
@@ -114,10 +114,10 @@ first_phase_rising p b T ph j h f =
     shift_w : p.units + p.units + p.rows ≤ j → j ≡ w_at p (j - (p.units + p.units + p.rows))
     shift_w l = omega arith
 
--- a unit whose cost is not below 0 has no pivot
-pub first_phase_skip : (p : LinearProgram) (b : Basis) (T : ℕ → ℕ → ℤ) (u : ℕ) → u < p.units
+-- a unit whose entry in the cost row is not below 0 is done without a pivot
+pub first_phase_skips : (p : LinearProgram) (b : Basis) (T : ℕ → ℕ → ℤ) (u : ℕ) → u < p.units
     → pos 0 ≤ℤ T (scale_at p) (x_at p u) → IsFirstPhase p b T u → IsFirstPhase p b T (u + 1)
-first_phase_skip p b T u h c ph = record {
+first_phase_skips p b T u h c ph = record {
   done = λ i l m. elim (eqb_tells i u) [
     | inl (_, e)
         ↦ inr (
@@ -267,9 +267,10 @@ first_phase_pivot p b b' T T' u h neg hs v keep ph = record {
     }
 
 -- ---- the start
-pub start_first_phase : (p : LinearProgram) (T : ℕ → ℕ → ℤ) → IsStart p T
+-- at the start no unit is done
+pub start_is_first_phase : (p : LinearProgram) (T : ℕ → ℕ → ℤ) → IsStart p T
     → IsFirstPhase p (start p) T 0
-start_first_phase p T s = record {
+start_is_first_phase p T s = record {
   done = λ i l h. absurd (omega arith);
   left = λ i l h. out i h;
   has_t = λ j h. start-has p (t_at p j) (omega arith) (omega arith) (λ q. absurd (omega arith));
@@ -330,9 +331,9 @@ start_first_phase p T s = record {
 -- ---- the pivot of a unit
 --
 -- if the cost row is below 0 at the first unit that is not done, that unit has the pivot
-pub first_phase_kind : (p : LinearProgram) (b : Basis) (T : ℕ → ℕ → ℤ) (u : ℕ) → u < p.units
+pub first_phase_pivots : (p : LinearProgram) (b : Basis) (T : ℕ → ℕ → ℤ) (u : ℕ) → u < p.units
     → IsFirstPhase p b T u → T (scale_at p) (x_at p u) <ℤ pos 0 → IsFirstKind p b T u
-first_phase_kind p b T u h ph neg = record {
+first_phase_pivots p b T u h ph neg = record {
   is_unit = h;
   negative = neg;
   before = λ i l. elim (ph.done i l (omega arith)) [
@@ -368,12 +369,13 @@ row_stays p b b' T T' l e c P v one prim prim' h n z k =
         same_factor (suc (scale_at p)) m.factor (pos 1) (T' c) (T c) m.positive
         (omega (arith, ints)) prim' prim (λ k l. simple k)
 
-pub first_phase_exchange : (p : LinearProgram) (b b' : Basis) (T T' : ℕ → ℕ → ℤ) (u : ℕ)
+-- after the pivot it is done
+pub first_phase_goes_on : (p : LinearProgram) (b b' : Basis) (T T' : ℕ → ℕ → ℤ) (u : ℕ)
     → u < p.units → Has b (scale_at p) → IsTableau p b T → IsFirstPhase p b T u
     → T (scale_at p) (x_at p u) <ℤ pos 0 → IsPivoted b b' T T' (s_at p u) (x_at p u) (T (s_at p u))
     → ((c : ℕ) → Has b c → c ≢ s_at p u → IsPrimitive (suc (scale_at p)) (T' c))
     → IsFirstPhase p b' T' (u + 1)
-first_phase_exchange p b b' T T' u h hs t ph neg v prims =
+first_phase_goes_on p b b' T T' u h hs t ph neg v prims =
     first_phase_pivot p b b' T T' u h neg hs v
     (λ c k i n z. row_stays p b b' T T' (s_at p u) (x_at p u) c (T (s_at p u)) v
     ((ph.left u (omega arith) h).row.at_x u h ∙ one-same u u refl) (t c i).primitive

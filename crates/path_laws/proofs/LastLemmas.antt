@@ -118,10 +118,11 @@ refuting_is_last p n b r T t row f =
           g.has_pivot;
     }
 
-pub past_is_last_here : (p : LinearProgram) (n : ℕ) (b : Basis) → Reaches p n b → (T : ℕ → ℕ → ℤ)
+-- so is one at whose pivot a number is out of range
+pub past_last : (p : LinearProgram) (n : ℕ) (b : Basis) → Reaches p n b → (T : ℕ → ℕ → ℤ)
     → IsTableau p b T → (l e c k : ℕ) (which : Which) → IsPastPivot p b T l e c k which
     → IsLast p b
-past_is_last_here p n b r T t l e c k which s =
+past_last p n b r T t l e c k which s =
     record {
       pivots = n;
       reached = r;

@@ -12,11 +12,12 @@ use Rattle.flow_rules.specs.Tableau.{IsTableau, IsComplete, IsPrimitive}
 use Rattle.flow_rules.specs.Pivots.{HasPivot, first_kind, second_kind, IsPivoted}
 use Rattle.flow_rules.specs.Path.{Follows, Reaches}
 use Rattle.path_laws.proofs.PivotLemmas.{IsTurn}
-use Rattle.path_laws.proofs.StartLemmas.{start_tableau, start_complete}
+use Rattle.path_laws.proofs.StartLemmas.{start_is_tableau, start_is_complete}
 use Rattle.path_laws.proofs.SolutionLemmas.{pivot_complete}
 use Rattle.path_laws.specs.Phases.{IsFirstPhase, VectorsRise}
-use Rattle.path_laws.proofs.FirstKindLemmas.{start_first_phase, first_phase_skip, first_phase_kind}
-use Rattle.path_laws.proofs.FirstKindLemmas.{first_phase_exchange, first_phase_rising}
+use Rattle.path_laws.proofs.FirstKindLemmas.{start_is_first_phase, first_phase_skips}
+use Rattle.path_laws.proofs.FirstKindLemmas.{first_phase_pivots, first_phase_goes_on}
+use Rattle.path_laws.proofs.FirstKindLemmas.{first_phase_ends}
 use Rattle.path_laws.proofs.LastLemmas.{agree}
 use Rattle.path_laws.proofs.OnePathLemmas.{first_unit}
 use Rattle.path_laws.proofs.PathLemmas.{reaches_sound}
@@ -41,7 +42,7 @@ pub record HasUnit (p : LinearProgram) (b : Basis) (T : ℕ → ℕ → ℤ) : T
 pub settle : (p : LinearProgram) (b : Basis) (T : ℕ → ℕ → ℤ) (m u : ℕ) → u + m ≡ p.units
     → IsFirstPhase p b T u → HasUnit p b T ⊎ VectorsRise p b T
 settle p b T zero u e ph =
-    inr (first_phase_rising p b T (subst (IsFirstPhase p b T) (whole u e) ph))
+    inr (first_phase_ends p b T (subst (IsFirstPhase p b T) (whole u e) ph))
   where
     whole : (u : ℕ) → u + 0 ≡ p.units → u ≡ p.units
     whole u e = omega (arith, e)
@@ -49,7 +50,7 @@ settle p b T (suc m) u e ph =
     by_lt_z (T (scale_at p) (x_at p u)) (pos 0)
     (λ neg. inl (record { unit = u; is_unit = omega (arith, e); phase = ph; negative = neg }))
     (λ nonneg. settle p b T m (u + 1) (omega (arith, e))
-    (first_phase_skip p b T u (omega (arith, e)) nonneg ph))
+    (first_phase_skips p b T u (omega (arith, e)) nonneg ph))
 
 clash : (z : ℤ) → z <ℤ pos 0 → pos 0 ≤ℤ z → ⊥
 clash z h k = omega (arith, ints)
@@ -67,9 +68,9 @@ pub first_step : (p : LinearProgram) (b b' : Basis) (T T' : ℕ → ℕ → ℤ)
 first_step p b b' T T' l e P (first_kind v f) hs t u piv prims =
     let q : v ≡ u.unit =
     first_unit p b T T v u.unit (λ k h i. T (scale_at p) k) f
-    (first_phase_kind p b T u.unit u.is_unit u.phase u.negative) in (
+    (first_phase_pivots p b T u.unit u.is_unit u.phase u.negative) in (
       subst (λ w. IsFirstPhase p b' T' (w + 1)) q
-          (first_phase_exchange p b b' T T' v f.is_unit hs t
+          (first_phase_goes_on p b b' T T' v f.is_unit hs t
           (subst (IsFirstPhase p b T) (sym q) u.phase) f.negative piv prims),
       subst (λ w. Has b' (x_at p w)) q piv.enters,
       λ i h k. elim (eqb_tells i v) [
@@ -157,7 +158,7 @@ at_start : (p : LinearProgram) (T : ℕ → ℕ → ℤ) → IsTableau p (start 
 at_start p T t =
     canonical_same p (start p) T (start_rows p)
     (agree p 0 (start p) (λ k i. start p k) T (start_rows p) t
-    (start_tableau p (start_rows p) (start_exists p)))
+    (start_is_tableau p (start_rows p) (start_exists p)))
 
 pub phase_along : (p : LinearProgram) (n : ℕ) (b : Basis) → Reaches p n b → (T : ℕ → ℕ → ℤ)
     → IsTableau p b T → IsPhase p b (canonical p b T)
@@ -168,27 +169,28 @@ phase_along p zero b r T t =
     (inl (
       0,
       omega arith,
-      start_first_phase p (canonical p (start p) (start_rows p))
+      start_is_first_phase p (canonical p (start p) (start_rows p))
           (canonical_start p (start_rows p) (start_exists p)),
     ))) T t
 phase_along p (suc n) b (c, r, f) T t =
     phase_step p n c b (canonical p c f.tableau) (canonical p b T) r (step_of p n c b r f T t)
     (phase_along p n c r f.tableau f.is_tableau)
 
-pub complete_along : (p : LinearProgram) (n : ℕ) (b : Basis) → Reaches p n b → (T : ℕ → ℕ → ℤ)
+-- what solves the tableau of a basis of the path solves the equations
+pub path_is_complete : (p : LinearProgram) (n : ℕ) (b : Basis) → Reaches p n b → (T : ℕ → ℕ → ℤ)
     → IsTableau p b T → IsComplete p b T
-complete_along p zero b r T t =
+path_is_complete p zero b r T t =
     let e : b ≡ start p = fun_ext r in
     subst (λ c. (U : ℕ → ℕ → ℤ) → IsTableau p c U → IsComplete p c U) (sym e)
     (λ U u. same_complete p (start p) (start_rows p) U
     (agree p 0 (start p) (λ k i. start p k) (start_rows p) U
-    (start_tableau p (start_rows p) (start_exists p)) u)
-    (start_complete p (start_rows p) (start_exists p))) T t
-complete_along p (suc n) b (c, r, f) T t =
+    (start_is_tableau p (start_rows p) (start_exists p)) u)
+    (start_is_complete p (start_rows p) (start_exists p))) T t
+path_is_complete p (suc n) b (c, r, f) T t =
     let x = step_of p n c b r f T t in
     let before : IsComplete p c (canonical p c f.tableau) =
     same_complete p c f.tableau (canonical p c f.tableau) (agrees p c f.tableau)
-    (complete_along p n c r f.tableau f.is_tableau) in
+    (path_is_complete p n c r f.tableau f.is_tableau) in
     let after : IsComplete p b (canonical p b T) =
     pivot_complete p c b (canonical p c f.tableau) (canonical p b T) x.leaves x.enters x.pivot
     x.is_pivoted x.turn.same before in

@@ -1,7 +1,7 @@
 -- The numbers of a node's program are small enough for the pivots of the first kind.
 use Rattle.std.proofs.Common.{◌≡◌, ℕ, zero, suc, ◌+◌, ◌*◌, ◌^◌, ◌<◌, ◌≤◌, arith, refl, sym, subst}
 use Rattle.std.proofs.Common.{List, [], ◌∷◌, length, get_or}
-use Rattle.std.specs.Prelude.{ℤ, pos, ◌+ℤ◌, ◌-ℤ◌, ◌*ℤ◌, unsigned_abs}
+use Rattle.std.specs.Prelude.{◌≢◌, ℤ, pos, ◌+ℤ◌, ◌-ℤ◌, ◌*ℤ◌, unsigned_abs}
 use Rattle.std.proofs.lemmas.Int.{ints, unsigned_abs-mul}
 use Rattle.std.proofs.lemmas.List.Elements.{All-get_or}
 use Rattle.std.proofs.Math.Nat.{mul-le-mul}
@@ -9,7 +9,11 @@ use Rattle.flow_rules.specs.integer_laws.Total.{total_below}
 use Rattle.flow_rules.proofs.number_sets.Cited.{length_below}
 use Rattle.flow_rules.specs.Program.{Program, IsWithin, AreRanges, IsProgram}
 use Rattle.flow_rules.specs.LinearProgram.{linear_of, low_flow}
-use Rattle.path_laws.specs.RangeLaws.{AreWithin, most, ProgramFits}
+use Rattle.flow_rules.specs.Columns.{Basis, Has, x_at, s_at, scale_at}
+use Rattle.flow_rules.specs.Tableau.{IsTableau}
+use Rattle.flow_rules.specs.Pivots.{IsFirstKind}
+use Rattle.flow_rules.specs.Path.{Fits, Reaches}
+use Rattle.path_laws.specs.Ranges.{AreWithin, most}
 use Rattle.path_laws.proofs.SmallLemmas.{first_kind_fits}
 
 size_sub : (x y : ℤ) (m n : ℕ) → unsigned_abs x ≤ m → unsigned_abs y ≤ n
@@ -155,7 +159,12 @@ module _ (q : Program) (valid : IsProgram q) where
       below : (x : ℕ) → x ≤ 128 * (a₀ * w₀) → 2 * (s₀ + x + a₀ * w₀ + a₀ + 1) < 2 ^ 127
       below x m = omega (arith, m, wide, range)
 
-pub program_fits : ProgramFits
+-- so it is for the program of a node, whose numbers are that small
+pub program_fits : (q : Program) → IsProgram q → (n : ℕ) (b : Basis) → Reaches (linear_of q) n b
+    → (T : ℕ → ℕ → ℤ) → IsTableau (linear_of q) b T → (unit : ℕ)
+    → IsFirstKind (linear_of q) b T unit → (c : ℕ) → Has b c → c ≢ s_at (linear_of q) unit
+    → c ≢ scale_at (linear_of q)
+    → Fits (scale_at (linear_of q)) (T (s_at (linear_of q) unit)) (T c) (x_at (linear_of q) unit)
 program_fits q valid n b r T t unit f c hc cs cz =
     first_kind_fits (linear_of q) a₀ w₀ s₀ (within q valid) (limit q valid) n b r T t unit f c hc cs
     cz

@@ -10,7 +10,9 @@ use Rattle.std.proofs.Math.Nat.{eq-zero_of_zero-dvd}
 use Rattle.flow_rules.proofs.integer_laws.Cited.{V, ◌⊖◌, ◌⊗◌, ring, mul_pos}
 use Rattle.flow_rules.specs.integer_laws.Combined as rows
 use Rattle.flow_rules.specs.integer_laws.Reduced.{IsReduced, scaled}
-use Rattle.path_laws.specs.RangeLaws.{entry, RowsAreCombined, RowsArePrimitive}
+use Rattle.flow_rules.specs.Tableau.{IsPrimitive}
+use Rattle.flow_rules.specs.Pivots.{IsCombined}
+use Rattle.path_laws.specs.Ranges.{entry}
 
 combined_at : (p q : ℤ) (row pivot : List ℤ) (k : ℕ) → length row ≡ length pivot
     → entry (rows.combined p q row pivot) k ≡ p *ℤ entry row k -ℤ q *ℤ entry pivot k
@@ -36,7 +38,11 @@ factor_positive : (c : ℕ) (q : ℤ) → pos 0 <ℤ (pos c *ℤ q) → pos 0 <�
 factor_positive zero q h = absurd (omega (arith, ints))
 factor_positive (suc c) q h = omega (arith, ints)
 
-pub rows_are_combined : RowsAreCombined
+-- a row that was combined with a pivot row and made primitive is the row with its entry taken away,
+-- up to a positive factor
+pub rows_are_combined : (old pivot new : List ℤ) (c : ℕ) → length old ≡ length pivot
+    → pos 0 <ℤ entry pivot c → rows.IsCombined old pivot c new
+    → IsCombined (entry pivot) (entry old) (entry new) c
 rows_are_combined old pivot new c e pc m =
     let g : ℤ = pos m.lowest.common in
     let f : ℤ = pos (max 1 m.reduced.common) in
@@ -121,6 +127,8 @@ reduced_primitive old new r k h n d divides = at r.common refl
         times_one : (a : ℕ) → a ≡ a * 1
         times_one a = omega arith
 
-pub rows_are_primitive : RowsArePrimitive
+-- and it has no common divisor, unless it is 0 everywhere
+pub rows_are_primitive : (old pivot new : List ℤ) (c : ℕ) → rows.IsCombined old pivot c new
+    → (k : ℕ) → k < length new → entry new k ≢ pos 0 → IsPrimitive (length new) (entry new)
 rows_are_primitive old pivot new c m k h n d divides =
     reduced_primitive (rows.combined m.p m.q old pivot) new m.reduced k h n d divides

@@ -79,9 +79,9 @@ rising_first n f r = at_zero r.at refl
 
 -- so in the second phase no entry of the cost row is below 0, and no pivot of the first kind is
 -- left
-pub costs_not_negative : (p : LinearProgram) (n : ℕ) (b : Basis) (T : ℕ → ℕ → ℤ) → Reaches p n b
+pub costs_are_not_negative : (p : LinearProgram) (n : ℕ) (b : Basis) (T : ℕ → ℕ → ℤ) → Reaches p n b
     → IsTableau p b T → VectorsRise p b T → (k : ℕ) → k < columns p → pos 0 ≤ℤ T (scale_at p) k
-costs_not_negative p n b T reached tableau rising k h =
+costs_are_not_negative p n b T reached tableau rising k h =
     elim (bool_cases (b k)) [
       | inl t ↦
           let z : T (scale_at p) k ≡ pos 0 =
@@ -103,7 +103,7 @@ pub no_first_kind : (p : LinearProgram) (n : ℕ) (b : Basis) (T : ℕ → ℕ �
     → Reaches p n b → IsTableau p b T → VectorsRise p b T → IsFirstKind p b T unit → ⊥
 no_first_kind p n b T unit r t rising f =
     clash (T (scale_at p) (x_at p unit)) f.negative
-    (costs_not_negative p n b T r t rising (x_at p unit) (column f.is_unit))
+    (costs_are_not_negative p n b T r t rising (x_at p unit) (column f.is_unit))
   where
     column : unit < p.units → x_at p unit < columns p
     column h = omega arith

@@ -23,11 +23,12 @@ use Rattle.flow_rules.specs.Pivots.{HasPivot, first_kind, second_kind, IsFirstKi
 use Rattle.flow_rules.specs.Pivots.{IsPivoted}
 use Rattle.flow_rules.specs.Path.{Fits, Reaches}
 use Rattle.flow_rules.specs.Start.{IsStart, one_at}
+use Rattle.path_laws.specs.Ranges.{AreWithin, most}
 use Rattle.path_laws.proofs.StartBasisLemmas.{start-has}
-use Rattle.path_laws.proofs.StartLemmas.{one-same, one-other, start_tableau}
+use Rattle.path_laws.proofs.StartLemmas.{one-same, one-other, start_is_tableau}
 use Rattle.path_laws.specs.Phases.{IsBoxRow, IsIn, IsOut, IsFirstPhase, VectorsRise}
-use Rattle.path_laws.proofs.FirstKindLemmas.{first_phase_rising, first_phase_skip, first_phase_kind}
-use Rattle.path_laws.proofs.FirstKindLemmas.{start_first_phase}
+use Rattle.path_laws.proofs.FirstKindLemmas.{first_phase_ends, first_phase_skips}
+use Rattle.path_laws.proofs.FirstKindLemmas.{first_phase_pivots, start_is_first_phase}
 use Rattle.path_laws.proofs.LastLemmas.{agree}
 use Rattle.path_laws.proofs.OnePathLemmas.{Agree, first_unit}
 use Rattle.path_laws.proofs.PathLemmas.{IsSound, reaches_sound}
@@ -36,7 +37,6 @@ use Rattle.path_laws.proofs.CanonicalLemmas.{canonical, canonical_tableau, agree
 use Rattle.path_laws.proofs.CanonicalLemmas.{canonical_same}
 use Rattle.path_laws.proofs.PhaseLemmas.{HasUnit, first_step, IsStep, step_of}
 use Rattle.path_laws.proofs.StartTableauLemmas.{start_rows, start_exists, canonical_start}
-use Rattle.path_laws.specs.RangeLaws.{AreWithin, FirstKindFits, most}
 
 -- ---- absolute values
 size_sub : (x y : ℤ) → unsigned_abs (x -ℤ y) ≤ unsigned_abs x + unsigned_abs y
@@ -248,7 +248,7 @@ small_step : (p : LinearProgram) (b b' : Basis) (T T' : ℕ → ℕ → ℤ) (a 
 small_step p b b' T T' a w s u l e P (first_kind v g) within t f uf small piv =
     let q : v ≡ f.unit =
     first_unit p b T T v f.unit (λ k h i. T (scale_at p) k) g
-    (first_phase_kind p b T f.unit f.is_unit f.phase f.negative) in
+    (first_phase_pivots p b T f.unit f.is_unit f.phase f.negative) in
     let out : IsOut p b T v =
     subst (IsOut p b T) (sym q) (f.phase.left f.unit (omega arith) f.is_unit) in
     let uv : u ≤ v = subst (λ z. u ≤ z) (sym q) uf in
@@ -279,7 +279,7 @@ small_step p b b' T T' a w s u l e P (second_kind l' e' g k) within t f uf small
 settle_from : (p : LinearProgram) (b : Basis) (T : ℕ → ℕ → ℤ) (m u : ℕ) → u + m ≡ p.units
     → IsFirstPhase p b T u → ((f : HasUnit p b T) × (u ≤ f.unit)) ⊎ VectorsRise p b T
 settle_from p b T zero u e ph =
-    inr (first_phase_rising p b T (subst (IsFirstPhase p b T) (whole u e) ph))
+    inr (first_phase_ends p b T (subst (IsFirstPhase p b T) (whole u e) ph))
   where
     whole : (u : ℕ) → u + 0 ≡ p.units → u ≡ p.units
     whole u e = omega (arith, e)
@@ -291,7 +291,7 @@ settle_from p b T (suc m) u e ph =
     ))
     (λ nonneg. elim
     (settle_from p b T m (u + 1) (omega (arith, e))
-    (first_phase_skip p b T u (omega (arith, e)) nonneg ph)) [
+    (first_phase_skips p b T u (omega (arith, e)) nonneg ph)) [
       | inl (f, l) ↦ inl (f, omega arith)
       | inr r ↦ inr r
     ])
@@ -381,14 +381,14 @@ small_along p a w s within zero b r T t =
     let T₀ = canonical p (start p) (start_rows p) in
     let st : IsStart p T₀ = canonical_start p (start_rows p) (start_exists p) in
     let there : IsSmallPhase p (start p) T₀ a w s =
-    inl (0, omega arith, start_first_phase p T₀ st, start_small p T₀ a w s within st) in
+    inl (0, omega arith, start_is_first_phase p T₀ st, start_small p T₀ a w s within st) in
     subst (λ c. (U : ℕ → ℕ → ℤ) → IsTableau p c U → IsSmallPhase p c (canonical p c U) a w s)
     (sym e)
     (λ U u. subst (λ W. IsSmallPhase p (start p) W a w s)
     (sym
     (canonical_same p (start p) U (start_rows p)
     (agree p 0 (start p) (λ k i. start p k) U (start_rows p) u
-    (start_tableau p (start_rows p) (start_exists p))))) there) T t
+    (start_is_tableau p (start_rows p) (start_exists p))))) there) T t
 small_along p a w s within (suc n) b (c, r, f) T t =
     let x = step_of p n c b r f T t in
     let U = canonical p c f.tableau in
@@ -572,7 +572,11 @@ same_fits last P Q r q e el eP er f ne m n low k kl =
     (subst (λ z. IsLowest z (Q e) n m) (er e el)
     (subst (λ z. IsLowest (r e) z n m) (eP e el) low)) k kl
 
-pub first_kind_fits : FirstKindFits
+-- at a pivot of the first kind no row but the cost row can leave the range
+pub first_kind_fits : (p : LinearProgram) (a w s : ℕ) → AreWithin p a w s
+    → 2 * most p a w s < 2 ^ 127 → (n : ℕ) (b : Basis) → Reaches p n b → (T : ℕ → ℕ → ℤ)
+    → IsTableau p b T → (unit : ℕ) → IsFirstKind p b T unit → (c : ℕ) → Has b c → c ≢ s_at p unit
+    → c ≢ scale_at p → Fits (scale_at p) (T (s_at p unit)) (T c) (x_at p unit)
 first_kind_fits p a w s within limit n b r T t unit f c hc cs cz =
     let sound = reaches_sound p n b r in
     let U = canonical p b T in
@@ -590,7 +594,7 @@ first_kind_fits p a w s within limit n b r T t unit f c hc cs cz =
         | inl (g, l) ↦
             let q : g.unit ≡ unit =
             first_unit p b U U g.unit unit (λ k h i. U (scale_at p) k)
-            (first_phase_kind p b U g.unit g.is_unit g.phase g.negative) fu in
+            (first_phase_pivots p b U g.unit g.is_unit g.phase g.negative) fu in
             give
             (row_fits p b U a w s u unit within limit sound tu (subst (λ z. u ≤ z) q l)
             f.is_unit (subst (IsFirstPhase p b U) q g.phase) small c hc cs cz)

@@ -376,8 +376,9 @@ start-tells p k h =
     clash : false ≡ true → ⊥
     clash e = cc
 
-pub start_tableau : (p : LinearProgram) (T : ℕ → ℕ → ℤ) → IsStart p T → IsTableau p (start p) T
-start_tableau p T s c h =
+-- the start rows are the tableau of the start
+pub start_is_tableau : (p : LinearProgram) (T : ℕ → ℕ → ℤ) → IsStart p T → IsTableau p (start p) T
+start_is_tableau p T s c h =
     let (u, n, l) = start-tells p c h in
     record {
       combination = combination c h u n l;
@@ -486,9 +487,10 @@ total_neg zero f g e = omega (arith, ints)
 total_neg (suc n) f g e = let x = total_neg n f g (λ k l. e k (omega arith)) in let y =
     e n (omega arith) in omega (arith, ints, x, y)
 
-pub start_complete : (p : LinearProgram) (T : ℕ → ℕ → ℤ) → IsStart p T → IsComplete p (start p) T
+-- and have no other solutions than the equations
+pub start_is_complete : (p : LinearProgram) (T : ℕ → ℕ → ℤ) → IsStart p T → IsComplete p (start p) T
 unfolding x_total
-start_complete p T s v d r z = record {
+start_is_complete p T s v d r z = record {
   boxes = λ i h.
       let a = sym (dot_start p T v (s_at p i) s (at_s p i h)) ∙ z (s_at p i) (at_s p i h) in
       let x : total_below p.units (λ k. T (s_at p i) k *ℤ v k) ≡ v (x_at p i) =

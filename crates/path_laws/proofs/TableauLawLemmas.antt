@@ -1,27 +1,25 @@
 -- The laws, in the words of their statements.
 use Rattle.std.proofs.Common.{◌≡◌, ◌≢◌, ℕ, ◌<◌, ◌≤◌, true, false, arith, ap, sym, ◌∙◌}
+use Rattle.std.specs.Prelude.{suc, ℤ}
 use Rattle.flow_rules.specs.LinearProgram.{LinearProgram}
-use Rattle.flow_rules.specs.Columns.{columns, scale_at}
-use Rattle.path_laws.specs.TableauLaws.{TableauIsOne, StartIsTableau, StartIsComplete}
-use Rattle.path_laws.specs.TableauLaws.{PivotKeepsIndependence, PivotKeepsTableau}
-use Rattle.path_laws.specs.TableauLaws.{PivotKeepsSolutions}
+use Rattle.flow_rules.specs.Columns.{Has, Basis, exchanged, columns, scale_at}
+use Rattle.flow_rules.specs.Tableau.{IsComplete, IsPrimitive, IsIndependent, IsTableau}
+use Rattle.flow_rules.specs.Pivots.{IsPivoted, HasPivot}
 use Rattle.path_laws.proofs.CombinationLemmas.{exchange_independent}
 use Rattle.path_laws.proofs.UniqueLemmas.{row_unique}
 use Rattle.path_laws.proofs.KeptLemmas.{pivot_tableau}
 use Rattle.path_laws.proofs.SolutionLemmas.{pivot_complete}
-use Rattle.path_laws.proofs.StartLemmas as start
 use Rattle.path_laws.proofs.PivotLemmas.{exchanged-in, exchanged-other, turn_of}
 
-pub tableau_is_one : TableauIsOne
+-- a basis has at most one tableau
+pub tableau_is_one : (p : LinearProgram) (b : Basis) → IsIndependent p b → (T U : ℕ → ℕ → ℤ)
+    → IsTableau p b T → IsTableau p b U → (c k : ℕ) → Has b c → k ≤ scale_at p → T c k ≡ U c k
 tableau_is_one p b ind T U t u c k h l = row_unique p b c (T c) (U c) ind (t c h) (u c h) k l
 
-pub start_is_tableau : StartIsTableau
-start_is_tableau p T s = start.start_tableau p T s
-
-pub start_is_complete : StartIsComplete
-start_is_complete p T s = start.start_complete p T s
-
-pub pivot_keeps_independence : PivotKeepsIndependence
+-- the equations determine the columns of the basis after a pivot
+pub pivot_keeps_independence : (p : LinearProgram) (b b' : Basis) (T : ℕ → ℕ → ℤ) (l e : ℕ)
+    (pivot : ℕ → ℤ) → IsIndependent p b → IsTableau p b T → HasPivot p b T l e pivot
+    → ((k : ℕ) → b' k ≡ exchanged b l e k) → IsIndependent p b'
 pivot_keeps_independence p b b' T l e P ind t h next =
     let turn = turn_of p b T l e P t h in
     let el : e ≢ l = λ q. let y : true ≡ false = sym turn.was ∙ ap b (sym q) ∙ turn.outside in cc in
@@ -32,11 +30,18 @@ pivot_keeps_independence p b b' T l e P ind t h next =
     within : (p : LinearProgram) (k : ℕ) → k < columns p → k ≤ scale_at p
     within p k h = omega arith
 
-pub pivot_keeps_tableau : PivotKeepsTableau
+-- the rows that were combined with the pivot row, in lowest terms, are with it the tableau of the
+-- basis after the pivot
+pub pivot_keeps_tableau : (p : LinearProgram) (b b' : Basis) (T T' : ℕ → ℕ → ℤ) (l e : ℕ)
+    (pivot : ℕ → ℤ) → IsTableau p b T → HasPivot p b T l e pivot → IsPivoted b b' T T' l e pivot
+    → ((c : ℕ) → Has b c → c ≢ l → IsPrimitive (suc (scale_at p)) (T' c)) → IsTableau p b' T'
 pivot_keeps_tableau p b b' T T' l e P t h v prims =
     let turn = turn_of p b T l e P t h in
     pivot_tableau p b b' T T' l e P v t turn.combination turn.clear turn.primitive prims
 
-pub pivot_keeps_solutions : PivotKeepsSolutions
+-- and have no other solutions than the rows before
+pub pivot_keeps_solutions : (p : LinearProgram) (b b' : Basis) (T T' : ℕ → ℕ → ℤ) (l e : ℕ)
+    (pivot : ℕ → ℤ) → IsTableau p b T → HasPivot p b T l e pivot → IsPivoted b b' T T' l e pivot
+    → IsComplete p b T → IsComplete p b' T'
 pivot_keeps_solutions p b b' T T' l e P t h v comp =
     pivot_complete p b b' T T' l e P v (turn_of p b T l e P t h).same comp

@@ -19,7 +19,7 @@ use Rattle.path_laws.specs.Phases.{IsFirstPhase, VectorsRise, ValuesRise}
 use Rattle.path_laws.proofs.LastLemmas.{agree, passes, same_basis}
 use Rattle.path_laws.proofs.LeastLemmas.{level_level, less_less, less_level, level_less}
 use Rattle.path_laws.proofs.PathLemmas.{IsSound, reaches_sound}
-use Rattle.path_laws.proofs.SecondKindLemmas.{costs_not_negative, rises}
+use Rattle.path_laws.proofs.SecondKindLemmas.{costs_are_not_negative, rises}
 use Rattle.path_laws.proofs.ValueLemmas.{bottom-basic, bottom-outside}
 use Rattle.path_laws.proofs.CanonicalLemmas.{canonical, canonical_same, canonical_tableau}
 use Rattle.path_laws.proofs.PhaseLemmas.{IsPhase, settle, first_step, IsStep, step_of, phase_along}
@@ -153,7 +153,7 @@ ahead_first p n b d T U r x (inl (u, le, ph)) =
             after p w.unit w.is_unit,
             f.0,
             (λ rising. clash (T (scale_at p) (x_at p w.unit)) w.negative
-                (costs_not_negative p n b T r x.is_tableau rising (x_at p w.unit)
+                (costs_are_not_negative p n b T r x.is_tableau rising (x_at p w.unit)
                 (column p w.unit w.is_unit))),
             w.unit,
             w.is_unit,

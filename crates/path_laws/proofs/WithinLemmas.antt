@@ -2,12 +2,15 @@
 use Rattle.std.proofs.Common.{◌≡◌, ℕ, zero, suc, ◌<◌, ◌≤◌, inl, inr, arith, sym, subst}
 use Rattle.std.specs.Prelude.{ℤ, pos, negsuc, ◌+ℤ◌, neg_ℤ, ◌<ℤ◌, ◌≤ℤ◌, unsigned_abs}
 use Rattle.std.proofs.lemmas.Int.{ints}
-use Rattle.flow_rules.specs.Columns.{columns, right_at, scale_at}
+use Rattle.flow_rules.specs.Columns.{Basis, Has, columns, right_at, scale_at}
 use Rattle.flow_rules.specs.Vectors.{value_top, value_bottom}
+use Rattle.flow_rules.specs.LinearProgram.{LinearProgram}
+use Rattle.flow_rules.specs.Tableau.{IsTableau}
+use Rattle.flow_rules.specs.Path.{Reaches}
+use Rattle.flow_rules.specs.Rank.{IsWithin}
 use Rattle.path_laws.proofs.BoolLemmas.{bool_cases}
 use Rattle.path_laws.proofs.PathLemmas.{IsSound, reaches_sound}
 use Rattle.path_laws.proofs.ValueLemmas.{top-basic, top-outside, bottom-basic, bottom-outside}
-use Rattle.path_laws.specs.RangeLaws.{ValuesAreWithin}
 
 at_most : (m : ℕ) (z : ℤ) → unsigned_abs z ≤ m → z ≤ℤ pos m
 at_most m (pos n) h = omega (arith, ints)
@@ -20,7 +23,12 @@ at_least m (negsuc n) h = omega (arith, ints)
 same_size : (z : ℤ) → unsigned_abs (neg_ℤ z) ≡ unsigned_abs z
 same_size z = omega (arith, ints)
 
-pub values_are_within : ValuesAreWithin
+-- if no entry of the rows of a basis is above m, no number of the list of its values is
+pub values_are_within : (p : LinearProgram) (n : ℕ) (b : Basis) → Reaches p n b → (T : ℕ → ℕ → ℤ)
+    → IsTableau p b T → (m : ℕ) → 1 ≤ m
+    → ((c k : ℕ) → Has b c → k ≤ scale_at p → unsigned_abs (T c k) ≤ m)
+    → IsWithin m (suc (columns p)) (value_top b T (scale_at p) (right_at p))
+    (value_bottom b T (scale_at p))
 values_are_within p n b r T t m one small = record {
   positive = λ q h. positive q;
   bottom_most = λ q h. at_most m (value_bottom b T (scale_at p) q) (bottom q h);

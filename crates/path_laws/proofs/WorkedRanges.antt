@@ -18,7 +18,7 @@ use Rattle.flow_rules.specs.Pivots.{IsCombined, IsPivoted}
 use Rattle.flow_rules.specs.Path.{Fits, Follows, IsLast}
 use Rattle.flow_rules.specs.Multipliers.{multipliers}
 use Rattle.path_laws.proofs.PivotLemmas.{exchanged-other}
-use Rattle.path_laws.proofs.StartLemmas.{start_tableau}
+use Rattle.path_laws.proofs.StartLemmas.{start_is_tableau}
 use Rattle.path_laws.proofs.TableauLawLemmas.{pivot_keeps_tableau}
 use Rattle.path_laws.proofs.PathLemmas.{reaches_sound}
 use Rattle.path_laws.proofs.LastLemmas.{feasible_is_last}
@@ -47,7 +47,7 @@ rows = start_rows program
 
 is_tableau : IsTableau program (start program) rows
 unfolding rows
-is_tableau = start_tableau program (start_rows program) (start_exists program)
+is_tableau = start_is_tableau program (start_rows program) (start_exists program)
 
 -- t of what is wanted leaves, with the value -2
 leaves : IsLeaving program (start program) rows 2

@@ -1,7 +1,6 @@
-pub mod TableauLaws
 pub mod PathLaws
 pub mod Phases
 pub mod PhaseLaws
-pub mod RangeLaws
+pub mod Ranges
 pub mod Ends
 pub mod EndLaws

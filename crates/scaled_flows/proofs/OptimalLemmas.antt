@@ -4,22 +4,21 @@ use Rattle.std.proofs.Common.{◌≤ℤ◌, ◌<ℤ◌}
 use Rattle.std.proofs.lemmas.Int.{ints}
 use Rattle.tree_rules.specs.integer_laws.Total.{total}
 use Rattle.tree_rules.proofs.integer_laws.Cited.{V, ◌⊗◌, ◌⊕◌, ring, mul_assoc_z, mul_comm_z}
-use Rattle.tree_rules.proofs.integer_laws.Cited.{mul-le_left}
-use Rattle.tree_rules.proofs.integer_laws.Cited.{cancel_le, total-agree, total-mul}
+use Rattle.tree_rules.proofs.integer_laws.Cited.{mul-le_left, cancel_le, total-agree, total-mul}
 use Rattle.tree_rules.specs.problem_rules.Problem.{Problem}
 use Rattle.tree_rules.specs.pns_rules.Structure.{mats}
 use Rattle.tree_rules.specs.pns_rules.Nodes.{Node}
 use Rattle.tree_rules.specs.flow_rules.Net.{Net, net_of}
 use Rattle.tree_rules.specs.flow_rules.Relaxed.{stays, units, rows, row_low, row_high, unit_low}
-use Rattle.tree_rules.specs.flow_rules.Relaxed.{unit_cost}
-use Rattle.tree_rules.specs.flow_rules.Relaxed.{fixed_cost, row_balance, IsRelaxed, relaxed_cost}
+use Rattle.tree_rules.specs.flow_rules.Relaxed.{unit_cost, fixed_cost, row_balance, IsRelaxed}
+use Rattle.tree_rules.specs.flow_rules.Relaxed.{relaxed_cost}
 use Rattle.tree_rules.proofs.flow_rules.Cited.{All-listed}
 use Rattle.tree_rules.specs.Lean.{HasCheaper}
 use Rattle.scaled_flows.specs.Divisors.{Divisors, rate_divisor, AreDivisors}
 use Rattle.scaled_flows.specs.Scaled.{scaled_rate, size_floor, size_ceiling, row_floor, row_ceiling}
 use Rattle.scaled_flows.specs.Scaled.{scaled_cost, scaled_balance, price, size_costs, value_over}
 use Rattle.scaled_flows.specs.Settled.{IsSettled, AreSettled}
-use Rattle.scaled_flows.specs.Laws.{SettledAreRelaxed, CostIsCounted, SettledAreOptimal}
+use Rattle.scaled_flows.specs.LeastCost.{IsLeastCost}
 use Rattle.scaled_flows.proofs.SignLemmas.{settled_least, optimal_by_signs}
 
 from_one : (a : ℤ) → pos 1 ≤ℤ a → pos 0 <ℤ a
@@ -249,14 +248,24 @@ module _ (net : Net) (s : Divisors) (divide : AreDivisors net s) (n : Node) wher
         chain : (a b c d e : ℤ) → a ≡ b +ℤ c → c ≤ℤ d → b +ℤ d ≡ e → a ≤ℤ e
         chain a b c d e p h q = omega (arith, ints)
 
-pub settled_are_relaxed : SettledAreRelaxed
+-- scaled sizes over d that are in their ranges, times the divisor of sizes, are relaxed flows of
+-- the node
+pub settled_are_relaxed : (p : Problem) (s : Divisors) → AreDivisors (net_of p) s → (n : Node)
+    (z : ℕ → ℤ) (d scale : ℤ) (y : ℕ → ℤ) → AreSettled (net_of p) s n z d scale y
+    → IsRelaxed (net_of p) n (λ i. s.sizes *ℤ z i) d
 settled_are_relaxed p s divide n z d scale y settled =
     settled_relaxed (net_of p) s divide n z d scale y settled
 
-pub cost_is_counted : CostIsCounted
+-- what they cost
+pub cost_is_counted : (p : Problem) (s : Divisors) → AreDivisors (net_of p) s → (n : Node)
+    (z : ℕ → ℤ) (d : ℤ)
+    → relaxed_cost (net_of p) n (λ i. s.sizes *ℤ z i) d ≡ value_over (net_of p) s n z d
 cost_is_counted p s divide n z d = cost_counted (net_of p) s divide n z d
 
-pub settled_are_optimal : SettledAreOptimal
+-- if signs show that the sizes are optimal, their cost is the least
+pub settled_are_optimal : (p : Problem) (s : Divisors) → AreDivisors (net_of p) s → (n : Node)
+    (z : ℕ → ℤ) (d scale : ℤ) (y : ℕ → ℤ) → AreSettled (net_of p) s n z d scale y
+    → IsLeastCost p n (value_over (net_of p) s n z d) d
 settled_are_optimal p s divide n z d scale y settled = record {
   positive = settled.positive;
   under = value_under (net_of p) s divide n z d scale y settled;

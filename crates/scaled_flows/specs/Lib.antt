@@ -2,7 +2,6 @@ pub mod Divisors
 pub mod Scaled
 pub mod Settled
 pub mod LeastCost
-pub mod Laws
 pub mod Found
 pub use Rattle.tree_rules.specs.number_sets as number_sets
 pub use Rattle.tree_rules.specs.integer_laws as integer_laws

@@ -8,9 +8,10 @@
 //! refused. Only [`Scales::of`] takes memory.
 //!
 //! In `specs/`: `Divisors`, `Scaled` (the divided program), `Settled` (sizes and multipliers whose
-//! signs agree), `LeastCost`, `Found` and `Laws`. Modules: `scales` and `divisors` find the
-//! divisors; `units` and `rows` judge the sizes of units and what rows leave over; `settled`
-//! compares one number with its range and price; `optimum` checks an optimum, `flows` flows.
+//! signs agree), `LeastCost` and `Found`. That such sizes are optimal is proved in
+//! `proofs/OptimalLemmas`. Modules: `scales` and `divisors` find the divisors; `units` and `rows`
+//! judge the sizes of units and what rows leave over; `settled` compares one number with its range
+//! and price; `optimum` checks an optimum, `flows` flows.
 #![tactic(auto)]
 
 mod divisors;
@@ -21,8 +22,6 @@ mod scales;
 mod settled;
 mod units;
 
-ghost use Rattle.scaled_flows.specs.Laws.{SettledAreRelaxed, CostIsCounted, SettledAreOptimal};
-
 pub use flow_program::{
     Frac, Graph, Mixed, Node, Problem, Site, bound_of, cost_of, feasible, gcd, refutes, sets_of,
 };
@@ -30,11 +29,3 @@ pub use flows::cost_of_sizes;
 pub use optimum::{Guessed, least_value};
 pub use scales::Scales;
 pub use tree_rules::{relaxed_duality, sums_are_last};
-
-/// If signs show that scaled sizes are optimal at a node, their cost is the least of the node's
-/// relaxed flows.
-pub fn settled_are_optimal()
-    ensures relaxed { SettledAreRelaxed }
-    ensures cost { CostIsCounted }
-    ensures optimal { SettledAreOptimal }
-{}

@@ -3,15 +3,15 @@ use Rattle.std.proofs.Common.{◌≡◌, ℕ, ◌==◌, Bool, true, false, not, 
 use Rattle.std.proofs.Common.{subst, inl, inr, eqb-true}
 use Rattle.std.proofs.lemmas.Bool.{or_cases, or_right, and_from, both_ways, false_from_ne_true}
 use Rattle.tree_laws.specs.number_sets.Sets.{has, Avoids}
+use Rattle.tree_laws.specs.number_sets.Options.{IsIn}
 use Rattle.tree_laws.specs.pns_rules.Shape.{Shape, IsProper}
 use Rattle.tree_laws.specs.pns_rules.Nodes.{Node, Step, raw, rival, starve, loose, sole, IsPossible}
-use Rattle.tree_laws.specs.pns_rules.Nodes.{after}
-use Rattle.tree_laws.specs.pns_rules.Nodes.{is_free, IsOption}
-use Rattle.tree_laws.specs.tree_rules.Ways.{Way, at_material, decides, child_at}
+use Rattle.tree_laws.specs.pns_rules.Nodes.{after, is_free, IsOption}
+use Rattle.tree_laws.specs.tree_rules.Ways.{MayBranch, options_at, Way, at_material, decides}
+use Rattle.tree_laws.specs.tree_rules.Ways.{child_at}
 use Rattle.tree_laws.specs.tree_rules.Tree.{StepsPass, after_all}
 use Rattle.tree_laws.proofs.Cited.{IsChoice, free_parts, choices, child_apart}
 use Rattle.search_tree.specs.Below.{IsBelow}
-use Rattle.search_tree.specs.SearchLaws.{ChildrenAreBelow}
 
 -- an option of a material, as what its way to branch chooses
 pub choice_of : (g : Shape) (n : Node) (x c : ℕ) (t : List ℕ) → IsOption g n x t
@@ -32,7 +32,10 @@ choice_is_below g n w t apart o = record {
   apart = child_apart g n w t o apart;
 }
 
-pub children_are_below : ChildrenAreBelow
+-- each child is below its node, whichever way that is branched
+pub children_are_below : (g : Shape) → IsProper g → (n : Node) (w : Way) (t : List ℕ)
+    → Avoids n.inside n.outside → MayBranch g n w → IsIn t (options_at g n w)
+    → IsBelow n (child_at g n w t)
 children_are_below g proper n w t apart may i =
     choice_is_below g n w t apart (choices g n w t proper apart may i)
 
@@ -74,6 +77,7 @@ step_below g n (sole x u) proper apart p = record {
   ];
 }
 
+-- and so is the node that possible steps leave
 pub steps_lead_below : (g : Shape) (n : Node) (steps : List Step) → IsProper g
     → Avoids n.inside n.outside → StepsPass g n steps → IsBelow n (after_all g n steps)
 steps_lead_below g n [] proper apart pass =

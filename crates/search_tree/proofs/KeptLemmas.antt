@@ -123,6 +123,8 @@ module _ (p : Problem) (valid : IsValid p) (start : Node) (claim new_claim : Cla
       (other_leaf (place_of (cell_at children k)) f.what
       (λ e no_dead. child_dearer k lt no_dead))
 
+  -- an open leaf is branched that costs no more than any other, if it may undercut what is to be
+  -- undercut after that
   pub branching_is_kept : IsKeptFor p start new_claim new_undercut
       (Some (place_of (cell_at old at))) new
   branching_is_kept = record {
@@ -195,6 +197,7 @@ shut_leaf : (p : Problem) (last : Option Node) (n : Node) (e : End Leaf) (l : Le
 shut_leaf p last n e l o k =
     kept_leaf p last n l (subst (λ (x : End Leaf). EndIsKept p last n x) o.1 k)
 
+-- open leaves are shut, or get bounds
 pub shutting_is_kept : (p : Problem) (start : Node) (claim : Claim) (undercut : Option CostOver)
     (last : Option Node) (old new : List Cell) → IsKeptFor p start claim undercut last old
     → AreShut p (claimed_cost claim) old new → IsKeptFor p start claim undercut last new

@@ -36,6 +36,7 @@ use Rattle.search_tree.specs.Kept.{IsKeptFor}
 use Rattle.search_tree.specs.Turns.{CanBranch, IsLeastOpen}
 use Rattle.search_tree.proofs.OrderLemmas.{no_dearer_self, no_dearer_trans, no_dearer_may}
 
+-- a network of a node that has no relaxed flows cheaper than v costs at least v
 pub networks_cost_more : (p : Problem) → IsValid p → (v : CostOver) (n : Node) → IsPositive v
     → IsUnder p v n → (s : ℕ → Bool) → IsBetween (shape_of p) n.inside n.outside s
     → (z : ℕ → ℤ) (d : ℤ) → IsFlows (net_of p) s z d
@@ -82,6 +83,7 @@ module _ (p : Problem) (start : Node) (claim : Claim) (undercut : Option CostOve
   in_turn None e n m r f = absurd r
   in_turn (Some w) e n m r f = no_dearer_trans p n w m r f
 
+  -- the tree is lean
   pub kept_is_lean : IsLean p IsUntried undercut start (tree_of cells order)
   kept_is_lean = record {
     reduced = λ k w n s. (end_at k n (branch w) s).reduced;
@@ -92,6 +94,7 @@ module _ (p : Problem) (start : Node) (claim : Claim) (undercut : Option CostOve
         (open_at m l (end_at j m (leaf l) t) u no_dead);
   }
 
+  -- if no leaf is open, and something is claimed that passes, the tree is accepted
   pub whole_is_accepted : ClaimPasses true p claim → (claim ≡ unknown → ⊥)
       → ((i : ℕ) → i < length cells → EndsOpen (cell_at cells i).end → ⊥)
       → IsAccepted p start claim (tree_of cells order)
@@ -108,6 +111,7 @@ module _ (p : Problem) (start : Node) (claim : Claim) (undercut : Option CostOve
       known (λ k n low s. let c = cell_of k n (leaf (untried low)) s in
       shut c.number c.there (low, c.end_is))
 
+  -- an open leaf is open at its place
   pub open_stands : (at place : ℕ) → slice_get order place ≡ Some at
       → EndsOpen (cell_at cells at).end
       → IsOpenAt p IsUntried start (tree_of cells order) place (place_of (cell_at cells at))
@@ -159,6 +163,7 @@ module _ (p : Problem) (start : Node) (claim : Claim) (undercut : Option CostOve
               (pending c.number c.there (low, c.end_is)).reduced.live.no_dead
         ])
 
+    -- the budget is spent, if the nodes with the children of a least open leaf are more
     pub kept_is_spent : IsSpent p IsUntried undercut start (tree_of cells order) place count budget
     kept_is_spent = record {
       pending = λ k n o. pending_at n o.is_open.0 (open_cell k n o);

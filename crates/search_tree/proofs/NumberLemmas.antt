@@ -13,12 +13,12 @@ use Rattle.tree_laws.specs.number_sets.Options.{without_and_with, subsets, with_
 use Rattle.tree_laws.specs.number_sets.Options.{all_options}
 use Rattle.tree_laws.proofs.number_sets.Cited.{has-listed, has-union}
 use Rattle.tree_laws.specs.pns_rules.Shape.{Shape}
-use Rattle.tree_laws.specs.pns_rules.Structure.{makers}
+use Rattle.tree_laws.specs.pns_rules.Structure.{makers, is_needed}
 use Rattle.tree_laws.specs.pns_rules.Nodes.{Node, Step, sole, is_free, base_makers, free_makers}
-use Rattle.tree_laws.specs.pns_rules.Nodes.{options}
-use Rattle.tree_laws.specs.pns_rules.Nodes.{child}
+use Rattle.tree_laws.specs.pns_rules.Nodes.{options, child}
 use Rattle.tree_laws.specs.pns_rules.Ends.{IsReduced, IsUndecided}
 use Rattle.tree_laws.specs.tree_rules.Tree.{after_all}
+use Rattle.tree_laws.specs.tree_rules.Ways.{either, MayBranch, IsDecision}
 use Rattle.tree_laws.specs.Laws.{free_units}
 use Rattle.tree_laws.proofs.Cited.{length-listed, length-subsets, double, options_at_most}
 use Rattle.tree_laws.proofs.Cited.{free_count, child_count, steps_count}
@@ -122,6 +122,7 @@ module _ (g : Shape) (n : Node) (x : ℕ) (r : IsReduced g n) (undecided : IsUnd
           elim (or_cases (u == v) false h)
           [ inl q ↦ eqb-true u v q | inr q ↦ absurd (both_ways false refl q) ]
 
+  -- a needed material with a maker outside I and E has two options or more
   pub decisions_split : 2 ≤ length (options g n x)
   decisions_split = at (base_makers g n x) (free_makers g n x) refl refl
     where
@@ -157,6 +158,7 @@ module _ (g : Shape) (n : Node) (x : ℕ) (r : IsReduced g n) (undecided : IsUnd
 free_is_count : (g : Shape) (n : Node) → free_units g n ≡ free_count g n
 free_is_count g n = length-listed g.units (is_free g n)
 
+-- steps free no unit
 pub steps_free_none : (g : Shape) (n : Node) (steps : List Step)
     → free_units g (after_all g n steps) ≤ free_units g n
 steps_free_none g n steps =
@@ -194,3 +196,9 @@ shares_are_small g n x =
     let b : 2 ^ (k + (f - k)) ≡ 2 ^ k * 2 ^ (f - k) = pow-add 2 k (f - k) in
     let d : 2 ^ (k + (f - k)) ≤ 2 ^ f = pow-le-pow_right (omega arith) (omega (arith, fits)) in
     omega (arith, sum, a, b, d)
+
+-- the way at a free maker of a needed material is open too, and there is something to decide
+pub free_makers_decide : (g : Shape) (n : Node) (x u : ℕ) → is_needed g n.inside x ≡ true
+    → u < g.units → g.makes u x ≡ true → is_free g n u ≡ true
+    → MayBranch g n (either u) × IsDecision g n (either u)
+free_makers_decide g n x u needed lt makes free = ((lt, free), (x, needed, makes))

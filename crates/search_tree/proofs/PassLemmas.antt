@@ -1,19 +1,21 @@
 -- The tree of cells that fit passes, and its nodes are the cells.
 use Rattle.std.proofs.Common.{◌≡◌, ℕ, zero, suc, ◌+◌, ◌<◌, ◌≤◌, List, [], ◌∷◌, ◌++◌, length, map}
-use Rattle.std.proofs.Common.{refl, sym, ap, ap₂, ◌∙◌, subst, arith, Some, length-append}
+use Rattle.std.proofs.Common.{Bool, refl, sym, ap, ap₂, ◌∙◌, subst, arith, Some, length-append}
 use Rattle.std.specs.List.{range_with_len, slice_get}
-use Rattle.tree_laws.specs.pns_rules.Shape.{Shape}
+use Rattle.tree_laws.specs.problem_rules.Problem.{Problem}
+use Rattle.tree_laws.specs.pns_rules.Shape.{Shape, shape_of}
 use Rattle.tree_laws.specs.pns_rules.Nodes.{Node}
 use Rattle.tree_laws.specs.tree_rules.Ways.{Way, width, child_at}
 use Rattle.tree_laws.specs.tree_rules.Tree.{End, branch, leaf, TreeNode, children, skip, roots}
-use Rattle.tree_laws.specs.tree_rules.Tree.{StepsPass}
-use Rattle.tree_laws.specs.tree_rules.Tree.{after_all, below, Stands, EndPasses, Pass}
-use Rattle.tree_laws.specs.tree_rules.Leaf.{Leaf}
+use Rattle.tree_laws.specs.tree_rules.Tree.{StepsPass, after_all, below, Stands, EndPasses, Pass}
+use Rattle.tree_laws.specs.tree_rules.Leaf.{Leaf, LeafPasses}
+use Rattle.tree_laws.specs.tree_rules.Claim.{Claim, claimed_cost, ClaimPasses}
+use Rattle.tree_laws.specs.tree_rules.Accepted.{Proves}
 use Rattle.search_tree.specs.Cells.{Cell, place_of, cell_at, numbers_below, children_at, AreBehind}
 use Rattle.search_tree.specs.Cells.{IsLinked}
 use Rattle.search_tree.specs.Preorder.{IsPreorder, tree_of, told_end, told_tree}
 use Rattle.search_tree.specs.Fits.{Follows, EndFits, Fits}
-use Rattle.search_tree.specs.Laws.{IsCell}
+use Rattle.search_tree.specs.Laws.{IsGrown, IsCell}
 use Rattle.search_tree.proofs.TreeLemmas.{count_below}
 
 -- ---- roots of subtrees
@@ -379,3 +381,42 @@ module _ (g : Shape) (P : Node → Leaf → Type 0) (start : Node) (cells : List
       (λ (e : End Leaf). Stands g ns (told_tree as_it_is cells order) k
       (place_of (cell_at cells v)) e) (same_end (cell_at cells v).end)
       (told_cells_stand as_it_is ns is order a p k v h))
+
+-- ---- the whole tree of cells that fit
+
+-- it proves the claim, if the claim passes
+pub preorder_proves : (partial : Bool) (p : Problem) (start : Node) (claim : Claim)
+    (cells : List Cell) (order : List ℕ) → IsGrown partial p start claim cells
+    → ClaimPasses partial p claim → IsPreorder cells (0 ∷ []) order
+    → Proves partial p start claim (tree_of cells order)
+preorder_proves partial p start claim cells order grown claimed preorder = record {
+  claimed = claimed;
+  passes =
+      passes (shape_of p) (LeafPasses partial p (claimed_cost claim)) start cells grown.linked
+      grown.fits (start ∷ []) (0 ∷ []) order
+      (aligned_start (shape_of p) (LeafPasses partial p (claimed_cost claim)) start cells
+      grown.linked grown.fits) preorder;
+}
+
+-- each place of the tree has the node and the end of a cell
+pub places_are_cells : (partial : Bool) (p : Problem) (start : Node) (claim : Claim)
+    (cells : List Cell) (order : List ℕ) → IsGrown partial p start claim cells
+    → IsPreorder cells (0 ∷ []) order → (k : ℕ) (n : Node) (e : End Leaf)
+    → Stands (shape_of p) (start ∷ []) (tree_of cells order) k n e → IsCell cells n e
+places_are_cells partial p start claim cells order grown preorder k n e s =
+    nodes_are_cells (shape_of p) (LeafPasses partial p (claimed_cost claim)) start cells
+    grown.linked grown.fits (start ∷ []) (0 ∷ []) order
+    (aligned_start (shape_of p) (LeafPasses partial p (claimed_cost claim)) start cells
+    grown.linked grown.fits) preorder k n e s
+
+-- and the place of a cell has its node with its end
+pub cells_have_places : (partial : Bool) (p : Problem) (start : Node) (claim : Claim)
+    (cells : List Cell) (order : List ℕ) → IsGrown partial p start claim cells
+    → IsPreorder cells (0 ∷ []) order → (k i : ℕ) → slice_get order k ≡ Some i
+    → Stands (shape_of p) (start ∷ []) (tree_of cells order) k (place_of (cell_at cells i))
+    (cell_at cells i).end
+cells_have_places partial p start claim cells order grown preorder k i h =
+    cells_stand (shape_of p) (LeafPasses partial p (claimed_cost claim)) start cells grown.linked
+    grown.fits (start ∷ []) (0 ∷ []) order
+    (aligned_start (shape_of p) (LeafPasses partial p (claimed_cost claim)) start cells
+    grown.linked grown.fits) preorder k i h

@@ -138,6 +138,7 @@ module _ (g : Shape) (n : Node) where
               ↦ r.no_step (raw k.0) (k.1, free_from k.0 i (remains_parts k.0 k.2).1, (x, k.3, q))
         ])
 
+    -- the units that are not left out form a solution structure
     pub reduced_is_structure : IsStructure g (remaining g n)
     reduced_is_structure = record {
       graph = λ x e. e;
@@ -159,6 +160,7 @@ module _ (g : Shape) (n : Node) where
     }
 
     module _ (all : ℕ → Bool) (union : IsUnion g (λ u. false) all) where
+      -- so they are units of the union of all solution structures
       pub reduced_is_within : IsWithin (remaining g n) all
       reduced_is_within u e =
           (union.unit_in u).1 (
@@ -169,6 +171,7 @@ module _ (g : Shape) (n : Node) where
             e,
           )
 
+      -- and the free ones among them are no more than the union has
       pub free_units_are_few : length (listed g.units (is_free g n)) ≤ length (listed g.units all)
       free_units_are_few =
           length-within (listed g.units (is_free g n)) (listed g.units all)

@@ -6,16 +6,14 @@ use Rattle.std.proofs.lemmas.Bool.{or_cases, or_left, or_right, and_from, and_pa
 use Rattle.std.proofs.lemmas.Bool.{cases_Bool}
 use Rattle.tree_laws.specs.number_sets.Sets.{has, IsWithin}
 use Rattle.tree_laws.specs.number_sets.Options.{IsIn}
-use Rattle.tree_laws.specs.pns_rules.Shape.{Shape}
+use Rattle.tree_laws.specs.pns_rules.Shape.{IsProper, Shape}
 use Rattle.tree_laws.specs.pns_rules.Structure.{is_used, is_needed, HasPath}
 use Rattle.tree_laws.specs.pns_rules.Nodes.{Node, raw, IsOption, child}
 use Rattle.tree_laws.specs.pns_rules.Ends.{IsSound, IsReduced}
 use Rattle.tree_laws.proofs.pns_rules.Cited.{is_used-some, HasPath-within}
 use Rattle.tree_laws.specs.tree_rules.Ways.{Way, at_material, either, MayBranch, options_at}
-use Rattle.tree_laws.specs.tree_rules.Ways.{child_at}
-use Rattle.tree_laws.specs.tree_rules.Ways.{IsDecision}
+use Rattle.tree_laws.specs.tree_rules.Ways.{child_at, IsDecision}
 use Rattle.tree_laws.proofs.Cited.{IsChoice, choices, only}
-use Rattle.search_tree.specs.SearchLaws.{ChildrenAreSound}
 use Rattle.search_tree.proofs.BelowLemmas.{choice_of, choice_is_below}
 
 -- the unit makes a needed material
@@ -93,7 +91,10 @@ option_wanted g n (either v) t o may d (inr (inl e)) u h =
     absurd (both_ways (has t u) (ap (λ (k : List ℕ). has k u) e) h)
 option_wanted g n (either v) t o may d (inr (inr none)) u h = absurd none
 
-pub children_are_sound : ChildrenAreSound
+-- if there is something to decide, the children of a sound node are sound
+pub children_are_sound : (g : Shape) → IsProper g → (n : Node) (w : Way) (t : List ℕ) → IsSound g n
+    → IsReduced g n → MayBranch g n w → IsDecision g n w → IsIn t (options_at g n w)
+    → IsSound g (child_at g n w t)
 children_are_sound g proper n w t s r may d i =
     let o = choices g n w t proper s.apart may i in
     choice_is_sound g n w t s r (option_wanted g n w t o may d i) o

@@ -1,6 +1,7 @@
 -- The laws on values, over valid problems.
 use Rattle.std.proofs.Common.{ℕ, List, arith}
 use Rattle.std.proofs.lemmas.Int.{ints}
+use Rattle.tree_laws.specs.number_sets.Options.{IsIn}
 use Rattle.tree_laws.proofs.integer_laws.Cited.{mul-le_right}
 use Rattle.tree_laws.specs.number_sets.Sets.{Avoids}
 use Rattle.tree_laws.specs.problem_rules.Problem.{Problem}
@@ -12,15 +13,18 @@ use Rattle.tree_laws.proofs.pns_rules.Cited.{proper_if_valid}
 use Rattle.tree_laws.specs.flow_rules.Net.{net_of}
 use Rattle.tree_laws.specs.flow_rules.Relaxed.{relaxed_cost}
 use Rattle.tree_laws.proofs.flow_rules.Cited.{net_of_valid}
-use Rattle.tree_laws.specs.tree_rules.Ways.{Way, at_material, child_at}
+use Rattle.tree_laws.specs.tree_rules.Ways.{MayBranch, options_at, Way, at_material, child_at}
 use Rattle.tree_laws.specs.tree_rules.Tree.{StepsPass, after_all}
 use Rattle.tree_laws.specs.tree_rules.Lean.{IsNoDearer}
 use Rattle.tree_laws.proofs.Cited.{IsChoice, choices}
-use Rattle.search_tree.specs.SearchLaws.{BelowIsNoDearer, ChildrenAreDearer}
+use Rattle.search_tree.specs.Below.{IsBelow}
 use Rattle.search_tree.proofs.BelowLemmas.{choice_of, choice_is_below, steps_lead_below}
 use Rattle.search_tree.proofs.MonotoneLemmas.{sizes_above, relaxed_above, cost_above}
 
-pub below_is_no_dearer : BelowIsNoDearer
+-- for any relaxed flows of a node at which no needed material is dead, each node above it has some
+-- that cost no more
+pub below_is_no_dearer : (p : Problem) → IsValid p → (n m : Node) → IsBelow n m
+    → IsNever (IsDead (shape_of p) m) → IsNoDearer p n m
 below_is_no_dearer p valid n m below no_dead z d flows =
     let net_valid = net_of_valid p valid in
     let le = cost_above (net_of p) net_valid n m below no_dead z d flows in
@@ -51,7 +55,13 @@ choice_is_dearer p valid n w t steps apart choice pass no_dead =
       apart = rest.apart;
     }) no_dead
 
-pub ways_are_dearer : ChildrenAreDearer
+-- so values do not fall from a node to its children, after whatever steps are possible there
+pub ways_are_dearer : (p : Problem) → IsValid p → (n : Node) (w : Way) (t : List ℕ)
+    (steps : List Step) → Avoids n.inside n.outside → MayBranch (shape_of p) n w
+    → IsIn t (options_at (shape_of p) n w)
+    → StepsPass (shape_of p) (child_at (shape_of p) n w t) steps
+    → IsNever (IsDead (shape_of p) (after_all (shape_of p) (child_at (shape_of p) n w t) steps))
+    → IsNoDearer p n (after_all (shape_of p) (child_at (shape_of p) n w t) steps)
 ways_are_dearer p valid n w t steps apart may i =
     choice_is_dearer p valid n w t steps apart
     (choices (shape_of p) n w t (proper_if_valid p valid) apart may i)

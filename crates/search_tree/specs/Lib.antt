@@ -8,7 +8,6 @@ pub mod Preorder
 pub mod Runs
 pub mod SearchLaws
 pub mod Shut
-pub mod TurnLaws
 pub mod Turns
 pub mod Values
 pub use Rattle.tree_laws.specs.tree_rules as tree_rules

@@ -1,15 +1,9 @@
 -- Laws of the problem text. Each is the contract of a public function of this crate.
-use Rattle.std.specs.Prelude.{◌≡◌, ◌≤◌, ℕ, List, Ok, ℤ, unsigned_abs}
+use Rattle.std.specs.Prelude.{◌≡◌, ℕ, List, Ok}
 use Rattle.text_rules.specs.problem_rules.Problem.{Problem}
 use Rattle.text_rules.specs.problem_rules.Validity.{IsValid}
-use Rattle.text_rules.specs.Amount.{amount_limit, amount_of}
 use Rattle.text_rules.specs.Canonical.{canonical}
-use Rattle.text_rules.specs.Printed.{amount_bytes}
 use Rattle.text_rules.specs.Value.{read_text}
-
--- a printed amount reads as that amount
-abbrev pub AmountsReadBack : Type 0
-AmountsReadBack = (z : ℤ) → unsigned_abs z ≤ amount_limit → amount_of (amount_bytes z) ≡ Ok z
 
 -- The canonical text of a valid problem has no fault, and stands for that problem. Since a text
 -- stands for at most one problem, it stands for no other.

@@ -1,13 +1,8 @@
 //! The laws. Each function does nothing when it runs; a call gives its law to a proof.
-ghost use Rattle.text_laws.specs.Laws.{AmountsReadBack, CanonicalReads, CanonicalTells};
+ghost use Rattle.text_laws.specs.Laws.{CanonicalReads, CanonicalTells};
 ghost use Rattle.text_laws.specs.Laws.{ReadIsValid};
 
 use text_rules::valid_is_well_formed;
-
-/// A printed amount of at most 10^15 millionths reads as that amount.
-pub fn amounts_read_back()
-    ensures { AmountsReadBack }
-{}
 
 /// The canonical text of a valid problem reads as that problem.
 pub fn canonical_reads()

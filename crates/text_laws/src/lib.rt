@@ -1,8 +1,8 @@
 //! A canonical text reads back as its problem, and what is read is valid.
 //!
-//! These are laws of the problem text. A printed amount reads as that amount. The canonical text of
-//! a valid problem reads as that problem, and so as no other. What a text without a fault stands
-//! for is a valid problem.
+//! These are laws of the problem text. The canonical text of a valid problem reads as that problem,
+//! and so as no other: a printed amount reads as that amount (`proofs/PrintedAmount`). What a text
+//! without a fault stands for is a valid problem.
 //!
 //! `specs/Laws` states the laws. Each is the contract of a function of [`laws`] that does nothing:
 //! a call gives the law to the caller's proof. They are in a crate apart from the reader of such
@@ -11,4 +11,4 @@
 
 pub mod laws;
 
-pub use laws::{amounts_read_back, canonical_reads, canonical_tells, read_is_valid};
+pub use laws::{canonical_reads, canonical_tells, read_is_valid};

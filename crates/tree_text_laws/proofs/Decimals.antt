@@ -253,6 +253,8 @@ number_back (c ∷ cs) z e = at (c == 45) refl e where
       (ap (λ (x : ℕ). x ∷ cs) (eqb-true c 45 q) ∙ m.0, m.1)
   at false q e = plus_back (c ∷ cs) (whole_within greatest (c ∷ cs)) z refl e
 
+-- A number within its range is read from what is printed of it, and from no other text. So are the
+-- denominators and counts below.
 pub number_code : IsCode whole_of signed_decimal InRange
 number_code = record {
   back = λ token z e. number_back token z (told_ok BadNumber (whole_number token) z e);

@@ -1,25 +1,32 @@
 -- The line of a word and tokens says that word and those tokens, and no other line does.
 use Rattle.std.proofs.Common.{◌≡◌, Bool, true, false, ℕ, List, [], ◌∷◌, Option, Some, None, refl}
-use Rattle.std.proofs.Common.{sym, ap, ap₂, ◌∙◌, if◌then◌else◌}
+use Rattle.std.proofs.Common.{map, sym, ap, ap₂, ◌∙◌, if◌then◌else◌}
 use Rattle.std.specs.List.{list_all, list_any}
 use Rattle.std.specs.Str.{bytes_eq}
 use Rattle.std.proofs.lemmas.Bool.{and_parts, and_from}
 use Rattle.std.proofs.lemmas.Slice.Eq.{bytes_eq-Decides}
 use Rattle.tree_text_rules.specs.problem_rules.Each.{Each}
 use Rattle.tree_text_rules.specs.text_rules.Canonical.{joined}
+use Rattle.tree_text_rules.specs.Spelling.{text_of}
 use Rattle.text_laws.proofs.Cited.{each-to}
 use Rattle.tree_text_rules.specs.Line.{Token, Line, is_feed, is_space, tokens_of, has_bytes}
 use Rattle.tree_text_rules.specs.Line.{is_formed, word_text, word_named, first_word, behind_first}
-use Rattle.tree_text_rules.specs.Line.{word_of, fields_of}
+use Rattle.tree_text_rules.specs.Line.{word_of, fields_of, lines_of}
 use Rattle.tree_text_rules.specs.declared.Word.{Word}
 use Rattle.tree_text_rules.specs.declared.Word.TheVariants as words
 use Rattle.tree_text_laws.proofs.Pieces.{split_joined, joined_none, joined_split, HasNoFeed}
+use Rattle.tree_text_laws.proofs.Pieces.{text_again}
 use Rattle.tree_text_laws.specs.Codes.{line_of, IsToken}
 
 pub no_feed : (tokens : List Token) → Each IsToken tokens → HasNoFeed tokens
 no_feed tokens each =
     joined_none is_feed 32 tokens refl
     (each-to IsToken (λ t. list_any is_feed t ≡ false) (λ t is. is.feed) tokens each)
+
+-- the text of lines of tokens has these lines
+pub texts_have_lines : (lines : List (List Token)) → Each (Each IsToken) lines
+    → lines_of (text_of lines) ≡ map line_of lines
+texts_have_lines lines each = text_again lines (each-to (Each IsToken) HasNoFeed no_feed lines each)
 
 -- ---- what a line of tokens says
 

@@ -1,5 +1,5 @@
 -- The laws of tokens and lines. Each is the contract of a public function of this crate.
-use Rattle.std.specs.Prelude.{◌≡◌, ℕ, List, [], ◌∷◌, map, decimal, Some, Ok}
+use Rattle.std.specs.Prelude.{◌≡◌, ℕ, [], ◌∷◌, map, Some, Ok}
 use Rattle.std.specs.Fmt.{signed_decimal}
 use Rattle.tree_text_rules.specs.integer_laws.Range.{InRange}
 use Rattle.tree_text_rules.specs.problem_rules.Each.{Each}
@@ -8,50 +8,27 @@ use Rattle.tree_text_rules.specs.problem_rules.Validity.{IsValid}
 use Rattle.tree_text_rules.specs.pns_rules.Nodes.{Step}
 use Rattle.tree_text_rules.specs.flow_rules.Cover.{Cover}
 use Rattle.tree_text_rules.specs.tree_rules.Known.{IsUnit, IsMaterial, IsExclusion, AreUnits}
-use Rattle.tree_text_rules.specs.tree_rules.Known.{KnowsStep, KnowsCover}
-use Rattle.tree_text_rules.specs.tree_rules.Known.{KnowsColumn, KnowsRow}
+use Rattle.tree_text_rules.specs.tree_rules.Known.{KnowsStep, KnowsCover, KnowsColumn, KnowsRow}
 use Rattle.tree_text_rules.specs.tree_rules.Head.{HeadLine}
-use Rattle.tree_text_rules.specs.Line.{Token, Line, lines_of, word_text}
+use Rattle.tree_text_rules.specs.Line.{Line, word_text}
 use Rattle.tree_text_rules.specs.LineRead.{step_read, end_line_read, cover_read, head_read}
 use Rattle.tree_text_rules.specs.LineRead.{option_read, root_read, network_line_read, sizes_read}
 use Rattle.tree_text_rules.specs.LineRead.{cost_read, nonbasic_read, place_read, close_read}
 use Rattle.tree_text_rules.specs.Spelling.{unit_name, material_name, exclusion_name, step_line}
 use Rattle.tree_text_rules.specs.Spelling.{end_line, cover_line, front_line, option_line}
 use Rattle.tree_text_rules.specs.Spelling.{column_text, row_text, which_text, flow_text}
-use Rattle.tree_text_rules.specs.Spelling.{place_fields, text_of}
-use Rattle.tree_text_rules.specs.Token.{unit_of, material_of, exclusion_of, number_of}
-use Rattle.tree_text_rules.specs.Token.{denominator_of, count_of, children_of, options_of}
-use Rattle.tree_text_rules.specs.Token.{column_of, row_of, which_of, flow_of}
+use Rattle.tree_text_rules.specs.Spelling.{place_fields}
+use Rattle.tree_text_rules.specs.Token.{unit_of, material_of, exclusion_of, column_of, row_of}
+use Rattle.tree_text_rules.specs.Token.{which_of, flow_of}
 use Rattle.tree_text_rules.specs.declared.Word.TheVariants as words
-use Rattle.tree_text_laws.specs.Codes.{IsToken, line_of, IsCode, IsLineCode}
-use Rattle.tree_text_laws.specs.LineFits.{IsCount, IsSomeCount, IsOptionCount, IsDenominator}
+use Rattle.tree_text_laws.specs.Codes.{line_of, IsCode, IsLineCode}
 use Rattle.tree_text_laws.specs.LineFits.{FitsSizes, FitsEndLine, FitsFrontLine, FitsPlace}
 
 -- any value fits
 abbrev pub Any : {A : Type 0} → A → Type 0
 Any a = Unit {0}
 
--- ---- lines
-
--- the text of lines of tokens has these lines
-abbrev pub TextsHaveLines : Type 0
-TextsHaveLines = (lines : List (List Token)) → Each (Each IsToken) lines
-    → lines_of (text_of lines) ≡ map line_of lines
-
--- and no other text has them
-abbrev pub LinesHaveOneText : Type 0
-LinesHaveOneText = (bytes : List ℕ) (lines : List (List Token)) → lines_of bytes ≡ map line_of lines
-    → bytes ≡ text_of lines
-
 -- ---- tokens
-
--- numbers within the ranges of their places
-pub record NumbersAreRead : Type 0 where
-  pub numbers : IsCode number_of signed_decimal InRange
-  pub denominators : IsCode denominator_of signed_decimal IsDenominator
-  pub counts : IsCode count_of decimal IsCount
-  pub children : IsCode children_of decimal IsSomeCount
-  pub options : IsCode options_of decimal IsOptionCount
 
 pub record ReadsNames (p : Problem) : Type 0 where
   pub units : IsCode (unit_of p) (unit_name p) (IsUnit p)

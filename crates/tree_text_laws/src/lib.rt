@@ -4,9 +4,9 @@
 //! a tree and a tail reads back as them, and what a text stands for has no other text. The same
 //! holds of the parts: networks, claims, a node's line with its steps, ends, trees, tails, and all
 //! lines but the first. It holds too of texts in which the lines of a head may come before the
-//! first node; these laws are not used yet. Each number, name, column and place, and each line of
-//! a node, a head, a network and a tail, is read from its one spelling. A text has one list of
-//! lines, and these have one text.
+//! first node; these laws are not used yet. Each name, column and place, and each line of a node,
+//! a head, a network and a tail, is read from its one spelling. So is each number
+//! (`proofs/Decimals`), and a text has one list of lines, which have one text (`Said`, `Pieces`).
 //!
 //! `specs/` states the laws: `Fits` (what a text can have), `Lines` (readings that take the lines
 //! of a value and no others) and `Laws`; `Codes` (values and their one spelling), `LineFits` (what
@@ -29,7 +29,7 @@ pub use laws::{
     spelled_texts_read, tails_are_read, texts_tell, trees_are_taken,
 };
 pub use line_laws::{
-    columns_are_read, lines_have_one_text, names_are_read, network_lines_are_read,
-    node_lines_are_read, numbers_are_read, tail_lines_are_read, texts_have_lines,
+    columns_are_read, names_are_read, network_lines_are_read, node_lines_are_read,
+    tail_lines_are_read,
 };
 pub use tree_text_rules::{MergeFault, Place, Refusal, TreeKind, Why, Word, valid_is_well_formed};

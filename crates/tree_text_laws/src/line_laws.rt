@@ -1,25 +1,9 @@
 //! The laws. Each function does nothing when it runs; a call gives a proof its law.
-ghost use Rattle.tree_text_laws.specs.LineLaws.{TextsHaveLines, LinesHaveOneText, NumbersAreRead};
 ghost use Rattle.tree_text_laws.specs.LineLaws.{NamesAreRead};
 ghost use Rattle.tree_text_laws.specs.LineLaws.{ColumnsAreRead, NodeLinesAreRead};
 ghost use Rattle.tree_text_laws.specs.LineLaws.{NetworkLinesAreRead, TailLinesAreRead};
 
 use tree_text_rules::valid_is_well_formed;
-
-/// The text of lines of tokens has these lines.
-pub fn texts_have_lines()
-    ensures { TextsHaveLines }
-{}
-
-/// A text whose lines are those of tokens is the text of these tokens.
-pub fn lines_have_one_text()
-    ensures { LinesHaveOneText }
-{}
-
-/// Numbers within their ranges are read from what is printed of them, and from no other text.
-pub fn numbers_are_read()
-    ensures { NumbersAreRead }
-{}
 
 /// Units, materials and exclusions of a valid problem are read from their names, and from no other
 /// text.
