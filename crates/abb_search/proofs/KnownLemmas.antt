@@ -7,7 +7,7 @@ use Rattle.std.specs.Prelude.{IfSome}
 use Rattle.std.proofs.lemmas.Bool.{cases_eq, cases_lt}
 use Rattle.std.proofs.lemmas.List.{get_or_append_left, get_or-append-add, get_or-set_same}
 use Rattle.std.proofs.lemmas.List.{get_or-set_other, length-set, length-map}
-use Rattle.node_evaluation.proofs.number_sets.Cited.{below_from}
+use Rattle.node_evaluation.proofs.number_sets.Cited.{below_from, or_swap}
 use Rattle.pns_io.specs.problem_rules.Each.{Each}
 use Rattle.pns_io.specs.problem_rules.Problem.{Problem}
 use Rattle.node_evaluation.specs.tree_rules.Claim as claims
@@ -57,12 +57,6 @@ known_end p c d k eo es e =
     (record { option = k.option; steps = k.steps; end = e }))
 
 -- ---- bounded leaves
-
-or_swap : (a b c : Bool) → (a || (b || c)) ≡ (b || (a || c))
-or_swap true true c = refl
-or_swap true false c = refl
-or_swap false true c = refl
-or_swap false false c = refl
 
 or_both : (a b c : Bool) → ((a || b) || c) ≡ (a || (b || c))
 or_both true b c = refl

@@ -15,7 +15,6 @@ pub mod ShutTreeLemmas
 pub mod SpentLemmas
 pub mod StepLemmas
 pub mod TurnLemmas
-pub mod WatchLemmas
 pub mod WorthLemmas
 pub use Rattle.node_evaluation.proofs.search_tree as search_tree
 pub use Rattle.node_evaluation.proofs as node_evaluation

@@ -42,7 +42,7 @@ or_nothing : (b : Bool) → b ≡ (b || false)
 or_nothing true = refl
 or_nothing false = refl
 
-leaf_kept : (p : Problem) (n : Node) (l : Leaf) → LeafIsKept p None n l
+pub leaf_kept : (p : Problem) (n : Node) (l : Leaf) → LeafIsKept p None n l
 leaf_kept p n (dead x) = tt
 leaf_kept p n (clash k) = tt
 leaf_kept p n (refuted ys) = tt

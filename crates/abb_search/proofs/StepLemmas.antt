@@ -10,10 +10,9 @@ use Rattle.node_evaluation.specs.neutral_extension.Candidates.{AreMakersOf}
 use Rattle.node_evaluation.specs.unit_sets.declared.node.Node as starts
 use Rattle.node_evaluation.specs.tree_rules.Claim as claims
 use Rattle.node_evaluation.specs.tree_rules.Claim.{CostOver, ClaimPasses}
-use Rattle.std.proofs.lemmas.Int.{ints}
 use Rattle.node_evaluation.specs.tree_rules.Costs.{HasFallen}
 use Rattle.node_evaluation.specs.search_tree.Values.{IsPositiveCost}
-use Rattle.node_evaluation.proofs.search_tree.Cited.{fraction_trans, preorder_has_all}
+use Rattle.node_evaluation.proofs.search_tree.Cited.{fraction_trans, preorder_has_all, fallen_same}
 use Rattle.node_evaluation.specs.pns_rules.Nodes.{Node}
 use Rattle.node_evaluation.specs.tree_rules.Accepted.{Tree}
 use Rattle.node_evaluation.specs.node_pool.Pooled.{Pooled}
@@ -103,10 +102,6 @@ more_after Past p s new going more fallen es eu = record {
 }
 
 -- ---- costs that fall
-
-pub fallen_same : (c : Option CostOver) → HasFallen c c
-fallen_same None = tt
-fallen_same (Some v) = omega (arith, ints)
 
 pub fallen_trans : (a b c : Option CostOver) → IsPositiveCost a → IsPositiveCost b
     → IsPositiveCost c → HasFallen a b → HasFallen b c → HasFallen a c

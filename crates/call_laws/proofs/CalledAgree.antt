@@ -1,24 +1,11 @@
 -- Calls of `solve`, `list` and `flows` agree.
-use Rattle.std.proofs.Common.{◌≡◌, ℕ, List, Some, sym, ◌∙◌, subst}
-use Rattle.studio.specs.text_rules.Outside.{Told}
-use Rattle.studio.specs.problem_rules.Problem.{Problem}
-use Rattle.studio.specs.studio_rules.declared.status.Status.{Status}
 use Rattle.studio.specs.studio_rules.declared.status.Status.TheVariants.{Done}
-use Rattle.studio.specs.studio_rules.Reading.{AreHeld, OnFile}
 use Rattle.studio.specs.studio_rules.Command.{Flows, Listing, Solving}
 use Rattle.studio.specs.studio_rules.Flows.{FlowsWork}
 use Rattle.studio.specs.studio_rules.Listing.{ListingWork}
 use Rattle.call_laws.specs.OptimumLaws.{ListedCostEnough}
 use Rattle.call_laws.specs.OptimumCalls.{CallsAgree}
-use Rattle.studio.proofs.Cited.{answered}
-
--- the same answer over another shelf that holds the file
-moved : (work : Problem → Status → List (List ℕ) → Type 0) (held later : List ℕ → Told)
-    (file bytes : List ℕ) (s : Status) (lines : List (List ℕ)) → held file ≡ Some (Some bytes)
-    → later file ≡ Some (Some bytes) → OnFile work held file s lines
-    → OnFile work later file s lines
-moved work held later file bytes s lines is here said =
-    (said.0, subst (λ (t : Told). AreHeld t said.0) (is ∙ sym here) said.1, said.2)
+use Rattle.studio.proofs.Cited.{answered, moved}
 
 pub calls_agree : ListedCostEnough → CallsAgree
 calls_agree law solving listing file bytes after count budget solved listed is solves puts here

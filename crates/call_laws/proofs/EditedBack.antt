@@ -31,9 +31,9 @@ use Rattle.studio.specs.studio_rules.Reading.{FileFault, GivesProblem, OnFile}
 use Rattle.studio.specs.studio_rules.Script.{GivesScript, OnScript, ScriptSays, HasEditFault}
 use Rattle.studio.specs.studio_rules.Script.{printed_lines}
 use Rattle.studio.specs.studio_rules.Edits.{EditWork, UndoWork}
+use Rattle.studio.proofs.Cited.{given_work, is_held}
 use Rattle.call_laws.specs.EditLaws.{File, IsPlantOrLong, EditIsUndone}
 use Rattle.call_laws.specs.TextLaws.{CanonicalIsShort}
-use Rattle.call_laws.proofs.Given.{is_held, given_work}
 
 -- a script that is read has no fault of form
 read_is_formed : (bytes : List ℕ) (s : Script) → read_script bytes ≡ Ok s → Each IsFormed s.edits

@@ -37,11 +37,10 @@ use Rattle.studio.specs.studio_rules.Start.{IsStart, OnStart}
 use Rattle.studio.specs.studio_rules.TreeFile.{OnTree}
 use Rattle.studio.specs.studio_rules.declared.status.Status.{Status}
 use Rattle.studio.specs.studio_rules.declared.status.Status.TheVariants.{Done, Spent, BadNode}
-use Rattle.studio.proofs.Cited.{part_status, claim_status}
+use Rattle.studio.proofs.Cited.{part_status, claim_status, given_work, is_held}
 use Rattle.studio.proofs.structure_list.Cited.{token_has_form}
 use Rattle.call_laws.specs.Parts.{leaf_line}
 use Rattle.call_laws.specs.Leaves.{PartAnswers, SpentLeavesAreNodes}
-use Rattle.call_laws.proofs.Given.{is_held, given_work}
 use Rattle.call_laws.proofs.Lines.{IsLineOf}
 use Rattle.call_laws.proofs.Nodes.{AreUnits, stands_small}
 use Rattle.call_laws.proofs.Starts.{IsTold}

@@ -4,7 +4,6 @@ pub mod CalledBack
 pub mod CostLemmas
 pub mod EditedBack
 pub mod FirstBasis
-pub mod Given
 mod LeafCalls
 mod Lines
 pub mod ListedLines

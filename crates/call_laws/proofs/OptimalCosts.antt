@@ -48,11 +48,11 @@ use Rattle.studio.specs.studio_rules.Listing.{ListingWork}
 use Rattle.studio.specs.studio_rules.Solve.{SolveWork, Holds, status_of}
 use Rattle.studio.specs.studio_rules.Rank as ranks
 use Rattle.studio.specs.studio_rules.Rankcheck.{AreBest}
+use Rattle.studio.proofs.Cited.{given_work, is_held}
 use Rattle.call_laws.specs.OptimumLaws.{TellNetwork, FlowsTell, SolveTells, RankTells}
 use Rattle.call_laws.specs.OptimumLaws.{IsSameCost, ListedCostEnough, IsReached}
 use Rattle.call_laws.specs.OptimumLaws.{OptimumIsListed, FirstIsOptimal}
 use Rattle.call_laws.proofs.CostLemmas.{IsBest, is_best}
-use Rattle.call_laws.proofs.Given.{is_held, given_work}
 use Rattle.call_laws.proofs.UnitNames.{set_of_names}
 use Rattle.call_laws.proofs.ListedLines.{listed_structure, has_line}
 

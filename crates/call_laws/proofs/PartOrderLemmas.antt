@@ -36,9 +36,8 @@ use Rattle.studio.specs.studio_rules.declared.status.Status.{Status}
 use Rattle.studio.specs.studio_rules.declared.status.Status.TheVariants.{Done}
 use Rattle.studio.proofs.command_files.Cited.{spelled_text}
 use Rattle.studio.proofs.Cited.{causes_same_file as same_file, first_part, not_parts, given_tree}
-use Rattle.studio.proofs.Cited.{merge_fault_status}
+use Rattle.studio.proofs.Cited.{merge_fault_status, given_work, is_held}
 use Rattle.call_laws.specs.PartOrders.{GiveApart, PrintOneTree, MergesAgree, EachOrderMerges}
-use Rattle.call_laws.proofs.Given.{is_held, given_work}
 use Rattle.call_laws.proofs.Merges.{no_fault}
 
 -- ---- the parts that files give

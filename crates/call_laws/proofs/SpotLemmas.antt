@@ -1,19 +1,16 @@
 -- A named number of a problem, and the edit that sets it.
 use Rattle.std.proofs.Common.{◌≡◌, ℕ, ◌<◌, true, not, List, [], Option, Some, None, length, get_or}
-use Rattle.std.proofs.Common.{ℤ, pos, negsuc, neg_ℤ, ◌≤ℤ◌, refl, sym, ap, ◌∙◌, subst, arith}
+use Rattle.std.proofs.Common.{refl, sym, ap, ◌∙◌, subst, arith}
 use Rattle.std.specs.Prelude.{option_map}
 use Rattle.std.specs.List.{position, position_or_len}
 use Rattle.std.specs.Str.{bytes_eq}
 use Rattle.std.proofs.lemmas.Grind.{common_steps}
-use Rattle.std.proofs.lemmas.Int.{ints}
-use Rattle.std.proofs.lemmas.Bool.Decides.{nat_tests}
 use Rattle.std.proofs.lemmas.List.{length-map}
 use Rattle.std.proofs.lemmas.List.Quantifiers.{position-Some}
 use Rattle.studio.specs.problem_rules.Problem.{Problem, Material, OperatingUnit, material_names}
 use Rattle.studio.specs.problem_rules.Problem.{unit_names, no_material, no_unit}
 use Rattle.studio.specs.problem_rules.Names.{is_among}
 use Rattle.studio.specs.problem_rules.Validity.{IsValid}
-use Rattle.studio.specs.problem_rules.WellFormed.{IsInRange, IsBound}
 use Rattle.studio.specs.edit_rules.Formed.{IsName}
 use Rattle.studio.specs.edit_rules.Place.{place_of}
 use Rattle.studio.proofs.edit_laws.Cited.{Each-at, map-at, bytes_same, knows-at, IsGoodMaterial}
@@ -24,6 +21,7 @@ use Rattle.studio.specs.report_rules.declared.spot.SpotKind.{SpotKind}
 use Rattle.studio.specs.report_rules.declared.spot.SpotKind.TheVariants.{Price, Fix, Proportional}
 use Rattle.studio.specs.report_rules.Spot.{KnowsSpot, valued, IsAllowedValue}
 use Rattle.studio.specs.studio_rules.Stable.{spot_named}
+use Rattle.studio.proofs.stability_laws.Cited.{bound, in_range}
 use Rattle.call_laws.specs.Ranges.{SettingsSetSpots}
 
 -- ---- the place of a name
@@ -126,18 +124,6 @@ spot_name p valid Proportional name spot e =
     unit_name p name spot spots.Proportional valid (proportional_stands p name spot e)
 
 -- ---- the edit
-
-pub in_range : (v : ℤ) → neg_ℤ (pos 1000000000000000) ≤ℤ v → v ≤ℤ pos 1000000000000000 → IsInRange v
-in_range (pos n) low high = omega (arith, ints)
-in_range (negsuc n) low high = omega (arith, ints)
-
-bound : (v : ℤ) → pos 0 ≤ℤ v → v ≤ℤ pos 1000000000000000 → IsBound v
-bound (pos n) low high = record {
-  in_range = omega (arith, ints);
-  not_negative =
-      grind (arith, nat_tests);
-}
-bound (negsuc n) low high = absurd (omega (arith, ints))
 
 pub settings_set_spots : SettingsSetSpots
 settings_set_spots p valid Price name spot e v allowed =

@@ -1,6 +1,5 @@
 -- Calls that search a plant without demands end with their whole answer.
-use Rattle.std.proofs.Common.{◌≡◌, ℕ, List, [], ◌∷◌, Result, Ok, Err, inl, inr, refl, sym, ◌∙◌}
-use Rattle.std.proofs.Common.{subst, arith}
+use Rattle.std.proofs.Common.{◌≡◌, ℕ, List, [], ◌∷◌, Result, Ok, inl, inr, refl, sym, ◌∙◌, subst}
 use Rattle.studio.specs.problem_rules.Problem.{Problem}
 use Rattle.studio.specs.text_rules.Fault.{Fault}
 use Rattle.studio.specs.text_rules.Outside.{Told}
@@ -11,7 +10,7 @@ use Rattle.studio.specs.tree_rules.Accepted.{Tree}
 use Rattle.studio.specs.tree_rules.Tail.{Tail, whole, spent, past}
 use Rattle.studio.specs.rank_rules.Text.{Text}
 use Rattle.studio.specs.studio_rules.Command.{command_of, IsFileWord}
-use Rattle.studio.specs.studio_rules.Reading.{AreHeld, FileFault, GivesProblem, OnFile}
+use Rattle.studio.specs.studio_rules.Reading.{AreHeld, GivesProblem, OnFile}
 use Rattle.studio.specs.studio_rules.Ending.{Finishes, Says, IsOneOf}
 use Rattle.studio.specs.studio_rules.Answers.{AnswersTo}
 use Rattle.studio.specs.studio_rules.Solve as solving
@@ -19,10 +18,9 @@ use Rattle.studio.specs.studio_rules.Solve.{SolveWork, CanFinish, status_of}
 use Rattle.studio.specs.studio_rules.Rank as ranking
 use Rattle.studio.specs.studio_rules.Rank.{RankWork}
 use Rattle.studio.specs.studio_rules.declared.status.Status.{Status}
-use Rattle.studio.specs.studio_rules.declared.status.Status.TheVariants.{Done, BadProblem}
-use Rattle.studio.specs.studio_rules.declared.status.Status.TheVariants.{ReadFault}
+use Rattle.studio.specs.studio_rules.declared.status.Status.TheVariants.{Done, ReadFault}
 use Rattle.studio.specs.studio_rules.declared.status.Status.TheVariants.{WriteFault, Memory}
-use Rattle.studio.specs.studio_rules.declared.status.Status.TheVariants.{TooLong}
+use Rattle.studio.proofs.Cited.{no_fault}
 use Rattle.call_laws.specs.Calls.{IsSure, SureSearchCanFinish, SureCallIsDone}
 use Rattle.call_laws.proofs.NoDemandsLemmas.{nothing_stops}
 
@@ -40,13 +38,6 @@ rank_is_done count budget p r whole can h = refl
 rank_is_done count budget p r (spent next options) can h = absurd (can.enough h.2)
 rank_is_done count budget p r (past node nonbasic place) can h =
     absurd (can.in_range h.1.node nonbasic place h.1.sound h.1.reduced h.1.past.past)
-
-no_fault : (name file : List ℕ) (p : Problem) (s : Status) (lines : List (List ℕ))
-    → GivesProblem file p → FileFault name file s lines → ⊥
-no_fault name file p TooLong lines g h = let w = g.within in let l = h.0 in absurd (omega arith)
-no_fault name file p BadProblem lines g h =
-    let e : ◌≡◌ {A = Result Problem Fault} (Ok p) (Err (h.1.0, h.1.1)) = sym g.reads ∙ h.1.2 in cc
-no_fault name file p s lines g h = h
 
 same_value : (p q : Problem) → ◌≡◌ {A = Result Problem Fault} (Ok p) (Ok q) → q ≡ p
 same_value p q e = cc

@@ -8,13 +8,10 @@ use Rattle.tree_text_rules.specs.number_sets.Sets.{has, meet, minus, Avoids, IsR
 use Rattle.tree_text_rules.proofs.number_sets.Cited.{has-meet, has-minus, same_sets, same_tests}
 use Rattle.tree_text_rules.specs.pns_rules.Shape.{Shape}
 use Rattle.tree_text_rules.specs.pns_rules.Nodes.{Node, is_free}
+use Rattle.charges.proofs.pgraph.Cited.{some_number}
 
 pub same_at : (s t : ℕ → Bool) (u : ℕ) → s ≡ t → s u ≡ t u
 same_at s t u e = ap (λ (f : ℕ → Bool). f u) e
-
-pub some_number : (xs : List ℕ) → (xs ≡ [] → ⊥) → (u : ℕ) × (has xs u ≡ true)
-some_number [] h = absurd (h refl)
-some_number (x ∷ xs) h = (x, or_left (x == x) (has xs x) (eq-eqb x x refl))
 
 pub none_there : (xs : List ℕ) (u : ℕ) → xs ≡ [] → has xs u ≡ true → ⊥
 none_there xs u e h = both_ways (has xs u) (ap (λ k. has k u) e) h

@@ -12,7 +12,8 @@ use Rattle.tree_text_rules.specs.pns_rules.Nodes.{is_free}
 use Rattle.tree_text_rules.specs.pns_rules.Ends.{IsDead}
 use Rattle.tree_text_rules.proofs.pns_rules.Cited.{is_made-from, is_made-some, is_used-from}
 use Rattle.tree_text_rules.proofs.pns_rules.Cited.{is_used-some}
-use Rattle.cert_check.proofs.SetLemmas.{same_at, some_number, none_there, is_none, left_is}
+use Rattle.charges.proofs.pgraph.Cited.{some_number}
+use Rattle.cert_check.proofs.SetLemmas.{same_at, none_there, is_none, left_is}
 
 module _ (g : Shape) (o : ℕ → Bool) (x : ℕ) where
   pub needed_known : IsProper g → is_needed g o x ≡ true → x < g.materials

@@ -27,7 +27,7 @@ map_last : (f : ℕ → ℤ) (js : List ℕ) (j : ℕ) → map f (js ++ j ∷ []
 map_last f [] j = refl
 map_last f (k ∷ js) j = ap (λ (zs : List ℤ). f k ∷ zs) (map_last f js j)
 
-append_none : {X : Type 0} (xs : List X) → xs ++ [] ≡ xs
+pub append_none : {X : Type 0} (xs : List X) → xs ++ [] ≡ xs
 append_none [] = refl
 append_none {X} (x ∷ xs) = ap (λ (ys : List X). x ∷ ys) (append_none xs)
 

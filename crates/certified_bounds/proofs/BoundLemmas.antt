@@ -1,6 +1,6 @@
 -- The answers for a node, from what the checks say.
-use Rattle.std.proofs.Common.{◌≡◌, ℕ, Option, Some, None, Result, Ok, Err, IfOk, IfSome, List, []}
-use Rattle.std.proofs.Common.{◌∷◌, sym, ◌∙◌, arith, pos, ℤ, ◌*ℤ◌, ◌≤ℤ◌}
+use Rattle.std.proofs.Common.{◌≡◌, ℕ, Option, Some, Result, Ok, Err, IfOk, IfSome, List, [], ◌∷◌}
+use Rattle.std.proofs.Common.{sym, ◌∙◌, arith, pos, ℤ, ◌*ℤ◌, ◌≤ℤ◌}
 use Rattle.std.proofs.lemmas.Int.{ints}
 use Rattle.scaled_flows.specs.integer_laws.Range.{InRange}
 use Rattle.scaled_flows.specs.problem_rules.Problem.{Problem}
@@ -14,13 +14,9 @@ use Rattle.scaled_flows.specs.flow_rules.Steps.{AreInRange, last_from}
 use Rattle.scaled_flows.specs.tree_rules.Claim.{Network, CostOver}
 use Rattle.scaled_flows.specs.tree_rules.Leaf.{IsBounded, IsOneEach, IsFormed, multiplier}
 use Rattle.scaled_flows.specs.LeastCost.{IsLeastCost}
+use Rattle.scaled_flows.proofs.Cited.{some_weaker}
 use Rattle.certified_bounds.specs.Certified.{cost_over}
 use Rattle.certified_bounds.proofs.FractionLemmas.{no_more_of_same, through}
-
-pub some_weaker : {T : Type 0} (o : Option T) (P Q : T → Type 0) → ((x : T) → P x → Q x)
-    → IfSome o P → IfSome o Q
-some_weaker None P Q f h = tt
-some_weaker (Some x) P Q f h = f x h
 
 pub found_weaker : {T E : Type 0} (r : Result (Option T) E) (P Q : T → Type 0)
     → ((x : T) → P x → Q x) → IfOk r (λ o. IfSome o P) → IfOk r (λ o. IfSome o Q)

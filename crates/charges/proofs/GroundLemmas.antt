@@ -11,6 +11,7 @@ use Rattle.structure_list.specs.integer_laws.Total.{total}
 use Rattle.structure_list.proofs.integer_laws.Cited.{total-agree}
 use Rattle.structure_list.specs.number_sets.Sets.{has, listed, IsRising, IsSet}
 use Rattle.structure_list.proofs.number_sets.Cited.{has-listed, same_sets, IsRising-listed}
+use Rattle.structure_list.proofs.number_sets.Cited.{has-first, has-rest}
 use Rattle.structure_list.specs.problem_rules.Problem.{Problem, rate_of}
 use Rattle.structure_list.specs.problem_rules.WellFormed.{IsWellFormed}
 use Rattle.structure_list.specs.pns_rules.Structure.{mats}
@@ -27,7 +28,7 @@ use Rattle.structure_list.proofs.flow_rules.Cited.{total_at_rows}
 use Rattle.flow_program.specs.Columns.{left_of}
 use Rattle.flow_program.specs.Entry.{entry}
 use Rattle.flow_program.specs.Rates.{AreRates}
-use Rattle.flow_program.proofs.Cited.{IsNext, has-first, has-rest, materials_are_rows}
+use Rattle.flow_program.proofs.Cited.{IsNext, materials_are_rows}
 use Rattle.structure_list.specs.flow_rules.ChargeFacts.{Demand, Facts}
 use Rattle.structure_list.specs.flow_rules.Cover.{Cover, paid}
 use Rattle.structure_list.specs.flow_rules.Charge as rules

@@ -8,8 +8,9 @@ use Rattle.std.proofs.lemmas.Float.{T_from_true}
 use Rattle.std.proofs.lemmas.Int.{ints}
 use Rattle.std.proofs.lemmas.Bool.{ne_eqb}
 use Rattle.structure_list.specs.number_sets.Sets.{has, kept, IsRising}
+use Rattle.structure_list.proofs.number_sets.Cited.{has-first, has-rest}
 use Rattle.structure_list.proofs.flow_rules.Cited.{at_most_from}
-use Rattle.flow_program.proofs.Cited.{walk_next, has-first, has-rest}
+use Rattle.flow_program.proofs.Cited.{walk_next}
 use Rattle.structure_list.specs.flow_rules.Charge.{Knee, inserted, sorted}
 use Rattle.charges.specs.Firsts.{AreAtLeast, IsFirstLeast, least_from}
 

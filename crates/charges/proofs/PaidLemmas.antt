@@ -12,11 +12,9 @@ use Rattle.structure_list.specs.integer_laws.Range.{InRange}
 use Rattle.structure_list.specs.number_sets.Sets.{has, IsWithin}
 use Rattle.structure_list.specs.flow_rules.Steps.{AreInRange, IsFirstPast}
 use Rattle.structure_list.proofs.flow_rules.Cited.{Leads, leads_none, leads_one, leads_part}
-use Rattle.structure_list.proofs.flow_rules.Cited.{leads_past}
-use Rattle.structure_list.proofs.flow_rules.Cited.{leads_past_in, leads_all, leads_same}
-use Rattle.structure_list.proofs.flow_rules.Cited.{IsFirstPast-right}
-use Rattle.structure_list.proofs.flow_rules.Cited.{AreInRange-append}
-use Rattle.flow_program.proofs.Cited.{IsNext, has_next, passed, rest_within}
+use Rattle.structure_list.proofs.flow_rules.Cited.{leads_past, leads_past_in, leads_all, leads_same}
+use Rattle.structure_list.proofs.flow_rules.Cited.{IsFirstPast-right, AreInRange-append}
+use Rattle.flow_program.proofs.Cited.{IsNext, has_next, passed, rest_within, lengths}
 use Rattle.structure_list.specs.flow_rules.Cover as rules
 use Rattle.structure_list.specs.flow_rules.Cover.{is_beside, paid_by, paid, added, weights}
 use Rattle.structure_list.specs.flow_rules.ChargeSteps.{added_steps, weight_steps, beside_steps}
@@ -28,10 +26,6 @@ use Rattle.charges.proofs.OwnLemmas.{same_all}
 
 clash : (b : Bool) → {X : Type 0} → b ≡ true → b ≡ false → X
 clash b e f = absurd (let g : true ≡ false = sym e ∙ f in cc)
-
-lengths : (n : ℕ) (left : List ℕ) (x : ℕ) (rest : List ℕ) → IsNext n left x rest → length left ≡ 1
-    + length rest
-lengths n left x rest next = ap (λ (xs : List ℕ). length xs) next.is ∙ (omega arith)
 
 plus_zero : (z : ℤ) → z ≡ z +ℤ pos 0
 plus_zero z = omega (arith, ints)

@@ -10,16 +10,9 @@ use Rattle.structure_list.specs.flow_rules.Relaxed.{row_low, row_high, row_part}
 use Rattle.structure_list.specs.flow_rules.Steps.{AreInRange, IsFirstPast}
 use Rattle.structure_list.specs.flow_rules.BoundSteps.{least_steps, rows_steps}
 use Rattle.structure_list.proofs.flow_rules.Cited.{Leads, leads_none, leads_part, leads_past_in}
-use Rattle.structure_list.proofs.flow_rules.Cited.{leads_all}
-use Rattle.structure_list.proofs.flow_rules.Cited.{leads_same}
+use Rattle.structure_list.proofs.flow_rules.Cited.{leads_all, leads_same}
 use Rattle.flow_program.specs.Columns.{least_of}
-use Rattle.flow_program.proofs.Cited.{IsNext, rest_within}
-
-nothing_more : (a b : ℤ) → b ≡ pos 0 → a ≡ a +ℤ b
-nothing_more a b e = omega (arith, ints)
-
-regroup_sum : (a b r : ℤ) → (a +ℤ b) +ℤ r ≡ a +ℤ (b +ℤ r)
-regroup_sum a b r = omega (arith, ints)
+use Rattle.flow_program.proofs.Cited.{IsNext, rest_within, nothing_more, regroup_sum}
 
 zero_plus : (a : ℤ) → pos 0 +ℤ a ≡ a
 zero_plus a = omega (arith, ints)

@@ -1,13 +1,12 @@
 -- Values written beside the numbers of a set.
-use Rattle.std.proofs.Common.{◌≡◌, ◌≢◌, ℕ, zero, suc, ◌+◌, ◌<◌, Bool, true, false, List, [], ◌∷◌}
-use Rattle.std.proofs.Common.{length, drop, get_or, set, replicate, refl, sym, ap, ◌∙◌, subst}
-use Rattle.std.proofs.Common.{arith, pos, ℤ}
+use Rattle.std.proofs.Common.{◌≡◌, ◌≢◌, ℕ, ◌+◌, ◌<◌, Bool, true, false, List, [], ◌∷◌, length, drop}
+use Rattle.std.proofs.Common.{get_or, set, replicate, refl, sym, ap, ◌∙◌, subst, arith, pos, ℤ}
 use Rattle.std.proofs.lemmas.List.{drop_more, get_or-set_same, get_or-set_other, length-set}
 use Rattle.std.specs.Prelude.{◌==◌, ◌||◌}
-use Rattle.std.proofs.lemmas.Bool.{eq-eqb, ne_eqb, both_ways}
-use Rattle.structure_list.specs.number_sets.Sets.{has, IsRising, IsBelowAll, IsSet, IsWithin}
+use Rattle.std.proofs.lemmas.Bool.{both_ways}
+use Rattle.structure_list.specs.number_sets.Sets.{has, IsSet, IsWithin}
 use Rattle.structure_list.specs.flow_rules.Net.{beside}
-use Rattle.flow_program.proofs.Cited.{IsNext, has_next, passed, rest_within}
+use Rattle.flow_program.proofs.Cited.{IsNext, has_next, passed, rest_within, beside_at}
 use Rattle.charges.proofs.OwnLemmas.{same_all}
 
 -- `left` are the numbers of the set from place k on; at each other the table has its value
@@ -34,26 +33,6 @@ none_tabled numbers values = record {
   within = λ j h. h;
   others = λ j h. same_all (pos 0) 256 j;
 }
-
-above_drop : (y : ℕ) (ys : List ℕ) (k x : ℕ) (rest : List ℕ) → IsBelowAll y ys → drop k ys ≡ x
-    ∷ rest → y < x
-above_drop y [] zero x rest h e = let f : [] ≡ x ∷ rest = e in cc
-above_drop y [] (suc k) x rest h e = let f : [] ≡ x ∷ rest = e in cc
-above_drop y (z ∷ ys) zero x rest h e = let f : z ≡ x = cc in subst (λ w. y < w) f h.0
-above_drop y (z ∷ ys) (suc k) x rest h e = above_drop y ys k x rest h.1 e
-
--- the value at a number's place is the one beside it
-pub beside_at : (xs : List ℕ) (zs : List ℤ) (k x : ℕ) (rest : List ℕ) → IsRising xs → drop k xs ≡ x
-    ∷ rest → k < length zs → beside xs zs x ≡ get_or zs k (pos 0)
-beside_at [] zs zero x rest h e l = let f : [] ≡ x ∷ rest = e in cc
-beside_at [] zs (suc k) x rest h e l = let f : [] ≡ x ∷ rest = e in cc
-beside_at (y ∷ ys) [] k x rest h e l = absurd (omega arith)
-beside_at (y ∷ ys) (z ∷ zs) zero x rest h e l =
-    let f : y ≡ x = cc in
-    rw (eq-eqb y x f) refl
-beside_at (y ∷ ys) (z ∷ zs) (suc k) x rest h e l =
-    let less = above_drop y ys k x rest h.0 e in
-    rw (ne_eqb y x (λ f. absurd (omega arith))) (beside_at ys zs k x rest h.1 e (omega arith))
 
 pub tabled_more : (n : ℕ) (numbers : List ℕ) (values table : List ℤ) (left : List ℕ) (k j : ℕ)
     (rest : List ℕ) (value : ℤ) → IsSet n numbers → length values ≡ length numbers

@@ -11,14 +11,13 @@ use Rattle.structure_list.specs.integer_laws.Range.{InRange}
 use Rattle.structure_list.specs.flow_rules.Steps.{AreInRange, IsFirstPast}
 use Rattle.structure_list.specs.flow_rules.BoundSteps.{least_steps, reduced_steps}
 use Rattle.structure_list.proofs.flow_rules.Cited.{IsFirstPast-left, IsFirstPast-right}
-use Rattle.structure_list.proofs.flow_rules.Cited.{AreInRange-append}
-use Rattle.structure_list.proofs.flow_rules.Cited.{at_most_from}
+use Rattle.structure_list.proofs.flow_rules.Cited.{AreInRange-append, at_most_from}
 use Rattle.structure_list.specs.flow_rules.Net.{Net, million, size_cost}
 use Rattle.structure_list.specs.flow_rules.Relaxed.{unit_cost, slope}
 use Rattle.structure_list.specs.integer_laws.Total.{total}
 use Rattle.structure_list.specs.number_sets.Sets.{has}
 use Rattle.flow_program.specs.Columns.{left_of, least_of}
-use Rattle.flow_program.proofs.Cited.{IsReducedSoFar, reduced_ends}
+use Rattle.flow_program.proofs.Cited.{IsReducedSoFar, reduced_ends, length_of_reduced}
 use Rattle.structure_list.specs.flow_rules.Charge.{Knee, Owed, bent, least_owed, or_none}
 use Rattle.structure_list.specs.flow_rules.ChargeSteps.{knee_steps, size_steps, sum_steps}
 use Rattle.charges.specs.declared.unit.Terms.{Terms}
@@ -27,12 +26,6 @@ use Rattle.charges.specs.Columns.{bent_steps, charge_in}
 use Rattle.charges.proofs.KneeLemmas.{lt_from}
 
 -- ---- what is owed before the knees
-pub length_of_reduced : (y rate : ℕ → ℤ) (js : List ℕ) (c : ℤ) → length (reduced_steps y rate js c)
-    ≡ 2 * length js
-length_of_reduced y rate [] c = refl
-length_of_reduced y rate (j ∷ js) c = let h = length_of_reduced y rate js (c -ℤ y j *ℤ rate j) in
-    omega arith
-
 -- the cost of a size, what the rows leave of it, and what the use leaves of that
 module _ (t : Terms) (d : ℤ) (y rate : ℕ → ℤ) (js : List ℕ) (cost : ℤ) (start : ℕ)
     (f : InRange (d *ℤ t.costs.size)) (e : cost ≡ d *ℤ t.costs.size) where

@@ -22,13 +22,9 @@ use Rattle.structure_list.specs.flow_rules.Relaxed.{stays, units}
 use Rattle.structure_list.proofs.flow_rules.Cited.{total-sets, no_rate_in, unit_formed}
 use Rattle.structure_list.proofs.flow_rules.Cited.{not_negative_from}
 use Rattle.flow_program.proofs.Cited.{rate_in_range, size_sub, IsNext, has_next, passed}
-use Rattle.flow_program.proofs.Cited.{rest_within}
+use Rattle.flow_program.proofs.Cited.{rest_within, lengths}
 use Rattle.structure_list.specs.flow_rules.ChargeFacts.{Facts, use_rate}
 use Rattle.structure_list.specs.flow_rules.Charge.{users_most}
-
-lengths : (n : ℕ) (left : List ℕ) (x : ℕ) (rest : List ℕ) → IsNext n left x rest → length left ≡ 1
-    + length rest
-lengths n left x rest next = ap (λ (xs : List ℕ). length xs) next.is ∙ (omega arith)
 
 clash : (b : Bool) → {X : Type 0} → b ≡ true → b ≡ false → X
 clash b e f = absurd (let g : true ≡ false = sym e ∙ f in cc)

@@ -1,6 +1,6 @@
 -- Pivots of the second kind along the path.
-use Rattle.std.proofs.Common.{◌≡◌, ℕ, suc, ◌+◌, ◌-◌, ◌*◌, ◌^◌, ◌<◌, ◌≤◌, inl, inr, false, arith}
-use Rattle.std.proofs.Common.{refl, ap, sym, ◌∙◌, subst, List, [], ◌∷◌, length, get_or, map, drop}
+use Rattle.std.proofs.Common.{◌≡◌, ℕ, suc, ◌+◌, ◌-◌, ◌*◌, ◌^◌, ◌<◌, ◌≤◌, inl, inr, false, arith, ap}
+use Rattle.std.proofs.Common.{sym, ◌∙◌, subst, List, get_or, map, drop}
 use Rattle.std.specs.Prelude.{ℤ, pos, neg_ℤ, ◌<ℤ◌, ◌≤ℤ◌, unsigned_abs}
 use Rattle.std.proofs.lemmas.Int.{ints}
 use Rattle.std.proofs.lemmas.Bool.{cases_eq}
@@ -9,6 +9,7 @@ use Rattle.std.proofs.Math.ListN.{get_or-map}
 use Rattle.path_laws.proofs.Cited.{bool_cases, basis_is_of_columns, exchange_goes_on}
 use Rattle.path_laws.proofs.Cited.{costs_are_not_negative, vectors_keep_rising}
 use Rattle.path_laws.proofs.Cited.{values_rise_by_pivots, rank_rises_too, values_are_within}
+use Rattle.path_laws.proofs.Cited.{length_map}
 use Rattle.flow_program.specs.integer_laws.declared.which.Which.{Which}
 use Rattle.flow_program.specs.integer_laws.Range.{InRange, AllInRange}
 use Rattle.flow_program.specs.flow_rules.LinearProgram.{LinearProgram}
@@ -27,10 +28,6 @@ use Rattle.dual_simplex.specs.Measure.{rank_of, ranks}
 use Rattle.dual_simplex.proofs.RankLemmas.{rank_below}
 use Rattle.dual_simplex.proofs.ExchangeLemmas.{row_long, exchange_is, past_is}
 use Rattle.dual_simplex.proofs.FirstLemmas.{same_size, same_width, scale_is, wide, past_kept}
-
-pub length_map : (f : ℤ → ℤ) (xs : List ℤ) → length (map f xs) ≡ length xs
-length_map f [] = refl
-length_map f (x ∷ xs) = ap suc (length_map f xs)
 
 pub columns_are : (p : LinearProgram) (r : Rows) → IsOfSize p r → columns_of r ≡ columns p
 columns_are p r s = let u = s.units in let w = s.rows in omega (arith, u, w)

@@ -19,7 +19,7 @@ use Rattle.certified_bounds.specs.declared.certified.Certified.{Certified}
 use Rattle.certified_bounds.specs.declared.certified.Certified.TheVariants.{Least, Flows}
 use Rattle.certified_bounds.specs.Certified.{IsCertified, IsBetween, IsLeastBound, IsNetworkAt}
 use Rattle.certified_bounds.specs.Certified.{IsFirstBound}
-use Rattle.certified_bounds.proofs.Cited.{bounded_under}
+use Rattle.certified_bounds.proofs.Cited.{bounded_under, no_more_of_same}
 use Rattle.node_evaluation.specs.declared.evaluator.PastStop.{PastStop}
 use Rattle.node_evaluation.specs.declared.evaluator.Bound.{Bound}
 use Rattle.node_evaluation.specs.Evaluated.{cost_over, cost_in, IsLowerBoundOf, IsBoundOf}
@@ -28,9 +28,6 @@ use Rattle.node_evaluation.specs.tree_rules.Past.{IsPastAt}
 
 abbrev pub bound_from : LeastBound → Bound
 bound_from b = record { value = b.value; low = b.low; scaled = b.scaled; interval = None }
-
-no_more_of_same : (a b : ℤ) → a ≡ b → a ≤ℤ b
-no_more_of_same a b e = omega (arith, ints)
 
 bound_is : (p : Problem) (n : Node) (b : LeastBound) → IsLeastBound p n b
     → IsBoundOf IsPastAt p n (bound_from b)

@@ -20,7 +20,7 @@ length_of_rows net n y [] sum = refl
 length_of_rows net n y (j ∷ js) sum = let h =
     length_of_rows net n y js (sum +ℤ row_part net n y j) in omega arith
 
-length_of_reduced : (y rate : ℕ → ℤ) (js : List ℕ) (c : ℤ)
+pub length_of_reduced : (y rate : ℕ → ℤ) (js : List ℕ) (c : ℤ)
     → length (reduced_steps y rate js c) ≡ 2 * length js
 length_of_reduced y rate [] c = refl
 length_of_reduced y rate (j ∷ js) c = let h =

@@ -209,10 +209,10 @@ pub row_sum_room : (net : Net) (n : Node) (y : ℕ → ℤ) (rows : List ℕ) (s
     (left : List ℕ) → length rows ≤ 256 → IsRowSum net n y rows sum so_far at left → at ≤ 513
 row_sum_room net n y rows sum so_far at left few h = let a = h.room in omega arith
 
-nothing_more : (a b : ℤ) → b ≡ pos 0 → a ≡ a +ℤ b
+pub nothing_more : (a b : ℤ) → b ≡ pos 0 → a ≡ a +ℤ b
 nothing_more a b e = omega (arith, ints)
 
-regroup_sum : (a b r : ℤ) → (a +ℤ b) +ℤ r ≡ a +ℤ (b +ℤ r)
+pub regroup_sum : (a b r : ℤ) → (a +ℤ b) +ℤ r ≡ a +ℤ (b +ℤ r)
 regroup_sum a b r = omega (arith, ints)
 
 pub row_sum_ends : (net : Net) (n : Node) (y : ℕ → ℤ) (rows : List ℕ) (sum so_far : ℤ) (at : ℕ)

@@ -63,7 +63,7 @@ cost_begins p u materials cost e small =
           omega arith;
     }
 
-lengths : (n : ℕ) (left : List ℕ) (x : ℕ) (rest : List ℕ) → IsNext n left x rest
+pub lengths : (n : ℕ) (left : List ℕ) (x : ℕ) (rest : List ℕ) → IsNext n left x rest
     → length left ≡ 1 + length rest
 lengths n left x rest next = ap (λ (xs : List ℕ). length xs) next.is ∙ (omega arith)
 

@@ -11,7 +11,8 @@ use Rattle.exact_numbers.specs.integer_laws.Range.{InRange}
 use Rattle.exact_numbers.specs.integer_laws.Total.{total}
 use Rattle.exact_numbers.proofs.integer_laws.Cited.{total-agree}
 use Rattle.pgraph.specs.number_sets.Sets.{has, listed, IsSet, IsWithin}
-use Rattle.pgraph.proofs.number_sets.Cited.{has-listed, same_sets, IsRising-listed}
+use Rattle.pgraph.proofs.number_sets.Cited.{has-listed, same_sets, IsRising-listed, has-first}
+use Rattle.pgraph.proofs.number_sets.Cited.{has-rest}
 use Rattle.pgraph.specs.problem_rules.Problem.{Problem, rate_of, terms_have, unit_at}
 use Rattle.pgraph.specs.problem_rules.WellFormed.{IsWellFormed}
 use Rattle.pgraph.specs.pns_rules.Shape.{Shape, IsProper}
@@ -29,7 +30,7 @@ use Rattle.pgraph.proofs.flow_rules.Cited.{total_at_units, unit_formed, int_eq_z
 use Rattle.flow_program.specs.Feasible.{IsInBox, AreInBoxes, IsInRangeOf, AreInRanges}
 use Rattle.flow_program.proofs.NodeSetLemmas.{listed_had, mats_known, absorbs}
 use Rattle.flow_program.proofs.RateLemmas.{rate_there, rate_elsewhere}
-use Rattle.flow_program.proofs.WalkLemmas.{IsNext, rest_within, has-first, has-rest}
+use Rattle.flow_program.proofs.WalkLemmas.{IsNext, rest_within}
 
 -- one number more of which something holds
 pub truth_more : (P : ℕ → Type 0) (H H' A B whole : Type 0) (left : List ℕ) (i : ℕ) (rest : List ℕ)

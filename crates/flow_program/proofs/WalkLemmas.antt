@@ -1,10 +1,11 @@
 -- A walk over a set from its least number on: what is left of it after that number, and what has
 -- been passed.
-use Rattle.std.proofs.Common.{◌≡◌, ℕ, ◌<◌, ◌≤◌, ◌==◌, Bool, true, false, not, ◌||◌, Some, List, []}
-use Rattle.std.proofs.Common.{◌∷◌, length, refl, sym, ap, ◌∙◌, subst, arith}
+use Rattle.std.proofs.Common.{◌≡◌, ℕ, ◌<◌, ◌≤◌, ◌==◌, Bool, true, false, not, Some, List, [], ◌∷◌}
+use Rattle.std.proofs.Common.{length, refl, sym, ap, ◌∙◌, subst, arith}
 use Rattle.std.proofs.lemmas.Bool.{eq-eqb, ne_eqb, eqb-true}
 use Rattle.pgraph.specs.number_sets.Sets.{has, first, kept, IsBelowAll, IsRising, AreBelow, IsSet}
 use Rattle.pgraph.specs.number_sets.Sets.{IsWithin}
+use Rattle.pgraph.proofs.number_sets.Cited.{has-first, has-rest}
 
 -- nothing above x is x
 keeps_above : (x : ℕ) (xs : List ℕ) → IsBelowAll x xs → kept (λ v. not (x == v)) xs ≡ xs
@@ -22,16 +23,6 @@ walk_next (y ∷ ys) x h e =
     let gone : (x == y) ≡ true = eq-eqb x y (sym same) in
     rw gone ((λ i. same i ∷ ys)
     ∙ ap (λ zs. x ∷ zs) (sym (keeps_above x ys (subst (λ w. IsBelowAll w ys) same h.0))))
-
-pub has-first : (x : ℕ) (xs : List ℕ) → has (x ∷ xs) x ≡ true
-has-first x xs = rw (eq-eqb x x refl) refl
-
-pub has-rest : (x u : ℕ) (xs : List ℕ) → has xs u ≡ true → has (x ∷ xs) u ≡ true
-has-rest x u xs h = at (x == u) h
-  where
-    at : (b : Bool) → has xs u ≡ true → (b || has xs u) ≡ true
-    at true h = refl
-    at false h = h
 
 -- x and then `rest`, a set of numbers below n
 pub record IsNext (n : ℕ) (left : List ℕ) (x : ℕ) (rest : List ℕ) : Type 0 where

@@ -14,10 +14,12 @@ pub use Rattle.flow_rules.proofs.ListedLemmas.{All-listed, total-listed, total-s
 pub use Rattle.flow_rules.proofs.NetLemmas.{IsNet, at_most_from, material_formed, net_of_formed}
 pub use Rattle.flow_rules.proofs.NetLemmas.{net_of_valid, no_rate_in, not_negative}
 pub use Rattle.flow_rules.proofs.NetLemmas.{not_negative_from, unit_formed}
-pub use Rattle.flow_rules.proofs.RelaxedLemmas.{mats_within, rate_of_other, slope_below}
-pub use Rattle.flow_rules.proofs.RelaxedLemmas.{slope_greatest, slope_positive}
+pub use Rattle.flow_rules.proofs.RelaxedLemmas.{mats_within, no_balance, no_rate, rate_of_other}
+pub use Rattle.flow_rules.proofs.RelaxedLemmas.{scaled_positive, slope_below, slope_greatest}
+pub use Rattle.flow_rules.proofs.RelaxedLemmas.{slope_positive}
 pub use Rattle.flow_rules.proofs.SameLemmas.{Agree, all_had, bound-same, bound_steps-same}
 pub use Rattle.flow_rules.proofs.SameLemmas.{costs-same, reduced-same}
-pub use Rattle.flow_rules.proofs.UsefulLemmas.{rounded_up_most, use_of_under, use_rate_nonneg}
-pub use Rattle.flow_rules.proofs.UsefulLemmas.{users_most_nonneg}
+pub use Rattle.flow_rules.proofs.UsefulLemmas.{at_most_nonneg, most_nonneg, rounded_up_most}
+pub use Rattle.flow_rules.proofs.UsefulLemmas.{total-larger, total_nonneg, use_of_under}
+pub use Rattle.flow_rules.proofs.UsefulLemmas.{use_rate_nonneg, users_most_nonneg}
 pub use Rattle.flow_rules.proofs.ZeroLemmas.{int_eq_other, int_eq_zero, zero_from}

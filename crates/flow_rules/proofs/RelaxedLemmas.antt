@@ -42,7 +42,7 @@ at_most_here false least most d z p r q h n =
 
 -- ---- the balance g of a material: r, it is raw; keep, it has to be there; t, it is of the
 -- structure
-scaled_positive : (x d : ℤ) → pos 0 ≤ℤ x → pos 1 ≤ℤ d → pos 0 ≤ℤ (million *ℤ x *ℤ d)
+pub scaled_positive : (x d : ℤ) → pos 0 ≤ℤ x → pos 1 ≤ℤ d → pos 0 ≤ℤ (million *ℤ x *ℤ d)
 scaled_positive x d p q =
     mul_nonneg (million *ℤ x) d (mul_nonneg million x (omega (arith, ints)) p) (omega (arith, ints))
 
@@ -147,7 +147,7 @@ not_of_false false e = refl
 no_size : (r z : ℤ) → z ≡ pos 0 → r *ℤ z ≡ pos 0
 no_size r z e = rw e (omega (arith, ints))
 
-no_rate : (r z : ℤ) → r ≡ pos 0 → r *ℤ z ≡ pos 0
+pub no_rate : (r z : ℤ) → r ≡ pos 0 → r *ℤ z ≡ pos 0
 no_rate r z e = rw e (omega (arith, ints))
 
 -- a unit of s neither uses nor makes what is no material of s
@@ -169,7 +169,7 @@ rate_of_other net valid s j i none l h =
     (without (s i) (net.graph.makes i j)
     (any_below-none net.graph.units (λ u. s u && net.graph.makes u j) i n.1 l) h)
 
-no_balance : (net : Net) → IsNet net → (s : ℕ → Bool) (z : ℕ → ℤ) (j : ℕ)
+pub no_balance : (net : Net) → IsNet net → (s : ℕ → Bool) (z : ℕ → ℤ) (j : ℕ)
     → mats net.graph s j ≡ false → balance net s z j ≡ pos 0
 no_balance net valid s z j none =
     total-zero (λ i. net.rate j i *ℤ z i) (units_of net s)

@@ -1,16 +1,15 @@
 -- A sum reads sizes and multipliers only at its own units and rows. So numbers that agree there
 -- give the same sum and steps.
 use Rattle.std.proofs.Common.{◌≡◌, ℕ, refl, sym, ap, ◌∙◌, pos, ℤ, ◌+ℤ◌, ◌-ℤ◌, ◌*ℤ◌, List, [], ◌∷◌}
-use Rattle.std.proofs.Common.{◌++◌, Bool, true, false, ◌==◌}
-use Rattle.std.specs.Prelude.{not, ◌&&◌, ◌||◌, nat_lt}
+use Rattle.std.proofs.Common.{◌++◌, Bool, true, false}
+use Rattle.std.specs.Prelude.{not, ◌&&◌, nat_lt}
 use Rattle.std.specs.Ordering.{int_eq}
 use Rattle.std.specs.Int.{int_min}
 use Rattle.std.specs.List.{AllByRecursion}
-use Rattle.std.proofs.lemmas.Bool.{eq-eqb}
 use Rattle.integer_laws.specs.Total.{total}
 use Rattle.integer_laws.proofs.Cited.{total-agree}
 use Rattle.pns_rules.specs.number_sets.Sets.{has}
-use Rattle.pns_rules.proofs.number_sets.Cited.{has-listed}
+use Rattle.pns_rules.proofs.number_sets.Cited.{has-listed, has-first, has-rest}
 use Rattle.pns_rules.specs.Structure.{mats}
 use Rattle.pns_rules.specs.Nodes.{Node}
 use Rattle.flow_rules.specs.Net.{Net, trillion, size_cost}
@@ -20,16 +19,6 @@ use Rattle.flow_rules.specs.BoundSteps.{least_steps, rows_steps, rows_at, reduce
 use Rattle.flow_rules.specs.BoundSteps.{units_steps, bound_steps}
 use Rattle.flow_rules.specs.CostSteps as costs
 use Rattle.flow_rules.specs.CostSteps.{cost_steps_from, cost_steps}
-
-has-first : (x : ℕ) (xs : List ℕ) → has (x ∷ xs) x ≡ true
-has-first x xs = rw (eq-eqb x x refl) refl
-
-has-rest : (x u : ℕ) (xs : List ℕ) → has xs u ≡ true → has (x ∷ xs) u ≡ true
-has-rest x u xs h = at (x == u) h
-  where
-    at : (b : Bool) → has xs u ≡ true → (b || has xs u) ≡ true
-    at true h = refl
-    at false h = h
 
 -- what holds of each number of a list
 pub all_had : (P : ℕ → Type 0) (xs : List ℕ) → ((x : ℕ) → has xs x ≡ true → P x)

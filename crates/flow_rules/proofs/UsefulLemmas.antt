@@ -52,12 +52,12 @@ rounded_up_most (pos m) (pos (suc n)) p q =
 pub use_rate_nonneg : (net : Net) (j i : ℕ) → pos 0 ≤ℤ use_rate net j i
 use_rate_nonneg net j i = left-le_int_max (pos 0) (neg_ℤ (net.rate j i))
 
-total_nonneg : {X : Type 0} (f : X → ℤ) (xs : List X) → AllByRecursion (λ x. pos 0 ≤ℤ f x) xs
+pub total_nonneg : {X : Type 0} (f : X → ℤ) (xs : List X) → AllByRecursion (λ x. pos 0 ≤ℤ f x) xs
     → pos 0 ≤ℤ total f xs
 total_nonneg f [] h = omega (arith, ints)
 total_nonneg f (x ∷ xs) h = omega (arith, ints, h.0, total_nonneg f xs h.1)
 
-most_nonneg : (net : Net) (f : Facts) → AreFacts net f → (i : ℕ) → i < net.graph.units
+pub most_nonneg : (net : Net) (f : Facts) → AreFacts net f → (i : ℕ) → i < net.graph.units
     → pos 0 ≤ℤ f.most i
 most_nonneg net f facts i l =
     let a = facts.not_negative i l in let b = facts.ordered i l in omega (arith, ints)
@@ -70,7 +70,7 @@ users_most_nonneg net n f facts j =
     (λ i l h. mul_nonneg (use_rate net j i) (f.most i) (use_rate_nonneg net j i)
     (most_nonneg net f facts i l)))
 
-at_most_nonneg : (v : Option ℤ) (most : ℤ) → IfSome v (λ x. pos 0 ≤ℤ x) → pos 0 ≤ℤ most
+pub at_most_nonneg : (v : Option ℤ) (most : ℤ) → IfSome v (λ x. pos 0 ≤ℤ x) → pos 0 ≤ℤ most
     → pos 0 ≤ℤ at_most v most
 at_most_nonneg None most h p = p
 at_most_nonneg (Some v) most h p =
@@ -92,7 +92,7 @@ under_most None most d x h p = p
 under_most (Some v) most d x h p = under_least (million *ℤ v) most d x h p
 
 -- a sum over a set is at most the same sum over a larger set, if no term is below 0
-total-larger : (g : ℕ → ℤ) (s t : ℕ → Bool) (n : ℕ) → IsWithin s t
+pub total-larger : (g : ℕ → ℤ) (s t : ℕ → Bool) (n : ℕ) → IsWithin s t
     → ((i : ℕ) → i < n → pos 0 ≤ℤ g i)
     → total g (listed n s) ≤ℤ total g (listed n t)
 total-larger g s t n sub nonneg =

@@ -5,12 +5,7 @@ use Rattle.std.specs.Prelude.{flat_map, if◌then◌else◌, Option, Some, None,
 use Rattle.std.specs.Prelude.{IfSome, option_map}
 use Rattle.report_amounts.specs.pns_problem.Printing.{printed}
 use Rattle.report_amounts.specs.report_rules.Graph.{node_line, arc_line}
-use Rattle.report_amounts.proofs.pns_problem.Cited.{after}
-
-pub printed-append : (xs ys : List (List ℕ)) → printed (xs ++ ys) ≡ printed xs ++ printed ys
-printed-append [] ys = refl
-printed-append (x ∷ xs) ys = ap (λ t. (x ++ 10 ∷ []) ++ t) (printed-append xs ys)
-    ∙ sym (append_assoc (x ++ 10 ∷ []) (printed xs) (printed ys))
+use Rattle.report_amounts.proofs.pns_problem.Cited.{after, printed-append}
 
 -- three pieces and four
 pub after_three : (old t1 t2 t3 x y z : List ℕ) → t1 ≡ old ++ x → t2 ≡ t1 ++ y → t3 ≡ t2 ++ z

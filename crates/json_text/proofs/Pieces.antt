@@ -4,26 +4,10 @@ use Rattle.std.proofs.Common.{append-nil}
 use Rattle.std.specs.Prelude.{Result, Ok, Err, OnOk}
 use Rattle.tree_reading.specs.pns_problem.Printing.{printed}
 use Rattle.report_rules.specs.Json.{quoted, parted, with_comma, comma_lines, array_lines}
-
-pub after : {X : Type 0} (old t1 t2 x y : List X) → t1 ≡ old ++ x → t2 ≡ t1 ++ y
-    → t2 ≡ old ++ (x ++ y)
-after old t1 t2 x y e f = f ∙ (ap (λ l. l ++ y) e ∙ append_assoc old x y)
-
-pub after_three : {X : Type 0} (old t1 t2 t3 x y z : List X) → t1 ≡ old ++ x → t2 ≡ t1 ++ y
-    → t3 ≡ t2 ++ z → t3 ≡ old ++ (x ++ (y ++ z))
-after_three old t1 t2 t3 x y z e f g = after old t1 t3 x (y ++ z) e (after t1 t2 t3 y z f g)
-
-pub after_four : {X : Type 0} (old t1 t2 t3 t4 x y z v : List X) → t1 ≡ old ++ x → t2 ≡ t1 ++ y
-    → t3 ≡ t2 ++ z → t4 ≡ t3 ++ v → t4 ≡ old ++ (x ++ (y ++ (z ++ v)))
-after_four old t1 t2 t3 t4 x y z v e f g h =
-    after old t1 t4 x (y ++ (z ++ v)) e (after_three t1 t2 t3 t4 y z v f g h)
+use Rattle.tree_reading.proofs.pns_problem.Cited.{printed-append}
+use Rattle.report_tables.proofs.Cited.{after}
 
 -- ---- lines
-
-pub printed-append : (xs ys : List (List ℕ)) → printed (xs ++ ys) ≡ printed xs ++ printed ys
-printed-append [] ys = refl
-printed-append (x ∷ xs) ys = ap (λ t. (x ++ 10 ∷ []) ++ t) (printed-append xs ys)
-    ∙ sym (append_assoc (x ++ 10 ∷ []) (printed xs) (printed ys))
 
 pub printed_one : (line : List ℕ) → printed (line ∷ []) ≡ line ++ 10 ∷ []
 printed_one line = append-nil (line ++ 10 ∷ [])

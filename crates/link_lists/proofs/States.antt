@@ -63,7 +63,7 @@ module _ (n cells : ℕ) (links : List Link) (stack : List ℕ) (depth : ℕ) (l
 reverse_push : (xs : List ℕ) (c : ℕ) → reverse (xs ++ c ∷ []) ≡ c ∷ reverse xs
 reverse_push xs c = reverse-append xs (c ∷ [])
 
-length_taken : (k : ℕ) (xs : List ℕ) → k ≤ length xs → length (take k xs) ≡ k
+pub length_taken : (k : ℕ) (xs : List ℕ) → k ≤ length xs → length (take k xs) ≡ k
 length_taken zero xs h = refl
 length_taken (suc k) [] h = absurd (omega arith)
 length_taken (suc k) (x ∷ xs) h = ap suc (length_taken k xs (omega arith))

@@ -38,11 +38,11 @@ apart_head : (x d : ℕ) (xs : List ℕ) → has xs x ≡ false → has xs d ≡
 apart_head x d xs out h =
     ne_eqb x d (λ e. both_ways (has xs x) out (subst (λ k. has xs k ≡ true) (sym e) h))
 
-first_has : (xs : List ℕ) (d : ℕ) → first xs ≡ Some d → has xs d ≡ true
+pub first_has : (xs : List ℕ) (d : ℕ) → first xs ≡ Some d → has xs d ≡ true
 first_has [] d e = cc
 first_has (x ∷ xs) d e = let s : x ≡ d = cc in subst (λ k. has (x ∷ xs) k ≡ true) s (has-here x xs)
 
-following_has : (c : ℕ) (xs : List ℕ) (d : ℕ) → following c xs ≡ Some d → has xs d ≡ true
+pub following_has : (c : ℕ) (xs : List ℕ) (d : ℕ) → following c xs ≡ Some d → has xs d ≡ true
 following_has c [] d e = cc
 following_has c (x ∷ xs) d e = by (x == c) refl (λ q. following_has c xs d q)
   where

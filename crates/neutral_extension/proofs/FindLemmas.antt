@@ -18,7 +18,7 @@ use Rattle.pgraph.proofs.pns_rules.Cited.{is_made-from, is_made-some, is_used-fr
 use Rattle.pgraph.proofs.pns_rules.Cited.{HasPath-within}
 use Rattle.pgraph.specs.Rivals.{IsRival}
 use Rattle.pgraph.specs.View.{node_of}
-use Rattle.pgraph.proofs.Cited.{first_is}
+use Rattle.pgraph.proofs.Cited.{first_is, some_number}
 use Rattle.neutral_extension.specs.OpenLeaf.{IsOnlyMaker}
 use Rattle.neutral_extension.specs.Tests.{is_open, MakesRaw, IsLooseSet}
 use Rattle.neutral_extension.proofs.EndLemmas.{free_from, free_parts, remains_from, remains_parts}
@@ -33,10 +33,6 @@ first_of (x ∷ xs) P r to from = (
       (or_from (x == y) (has xs y) (ne_eqb x y (λ q. omega arith))
       (below_not_had x y xs (omega arith) r.0)) (from y p),
 )
-
-some_number : (xs : List ℕ) → (xs ≡ [] → ⊥) → (u : ℕ) × (has xs u ≡ true)
-some_number [] h = absurd (h refl)
-some_number (x ∷ xs) h = (x, or_left (x == x) (has xs x) (eq-eqb x x refl))
 
 same_at : (s t : ℕ → Bool) (u : ℕ) → s ≡ t → s u ≡ t u
 same_at s t u e = ap (λ (f : ℕ → Bool). f u) e

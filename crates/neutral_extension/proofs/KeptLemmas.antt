@@ -15,6 +15,7 @@ use Rattle.link_lists.specs.Lists.{IsOnce, IsListed, IsTop, IsFree, AreApart}
 use Rattle.link_lists.specs.Lists as cells
 use Rattle.link_lists.proofs.Cited as laws
 use Rattle.pgraph.specs.pns_rules.Shape.{Shape, IsProper}
+use Rattle.link_lists.proofs.Cited.{length_taken}
 use Rattle.neutral_extension.specs.Candidates.{makers_at, AreMakersOf}
 use Rattle.neutral_extension.specs.Cells.{cell_at, full_from, full_rows, unit_cells, out_cells}
 use Rattle.neutral_extension.specs.Cells.{makes_in, out_units, units_from, refilled, makers_of}
@@ -24,11 +25,6 @@ use Rattle.neutral_extension.proofs.OutLemmas.{cells_has, out_cells_push, cells_
 use Rattle.neutral_extension.proofs.OutLemmas.{cells_none, back_one, out_units_push, row_left}
 use Rattle.neutral_extension.proofs.OutLemmas.{cell_listed, length_out, room_left, row_full}
 use Rattle.neutral_extension.proofs.OutLemmas.{length_full, has-map_to, once_cells, apart_out}
-
-length_taken : (k : ℕ) (xs : List ℕ) → k ≤ length xs → length (take k xs) ≡ k
-length_taken zero xs h = refl
-length_taken (suc k) [] h = absurd (omega arith)
-length_taken (suc k) (x ∷ xs) h = ap suc (length_taken k xs (omega arith))
 
 pub take_taken : (j k : ℕ) (xs : List ℕ) → j ≤ k → take j (take k xs) ≡ take j xs
 take_taken zero k xs h = refl

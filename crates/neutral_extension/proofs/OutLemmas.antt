@@ -9,7 +9,7 @@ use Rattle.std.proofs.lemmas.List.{length-map}
 use Rattle.std.specs.List.{filter}
 use Rattle.pgraph.specs.number_sets.Sets.{has, kept, first, IsSet, IsRising, IsBelowAll}
 use Rattle.pgraph.proofs.number_sets.Cited.{has-kept, same_tests, has_below, below_not_had}
-use Rattle.pgraph.proofs.number_sets.Cited.{first_had}
+use Rattle.pgraph.proofs.number_sets.Cited.{first_had, append_nil}
 use Rattle.link_lists.specs.Lists.{Rows, row, without, unlinked, relinked, IsOnce, IsListed, IsTop}
 use Rattle.link_lists.specs.Lists.{AreApart}
 use Rattle.link_lists.specs.Lists as cells
@@ -138,10 +138,6 @@ unfolding unit_cells
 cells_more makes u n h = let e : n + 1 ≡ suc n =
     omega arith in ap (unit_cells makes u) e
     ∙ ap (λ b. unit_cells makes u n ++ cond b (cell_at n u ∷ []) []) h
-
-append_nil : (xs : List ℕ) → xs ++ [] ≡ xs
-append_nil [] = refl
-append_nil (x ∷ xs) = ap (λ w. x ∷ w) (append_nil xs)
 
 pub cells_same : (makes : ℕ → ℕ → Bool) (u n : ℕ) → makes u n ≡ false
     → unit_cells makes u (n + 1) ≡ unit_cells makes u n

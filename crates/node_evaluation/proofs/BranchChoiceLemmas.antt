@@ -1,14 +1,13 @@
 -- Free makers of needed materials, and what is left of them.
-use Rattle.std.proofs.Common.{◌≡◌, ℕ, ◌<◌, nat_lt, ◌==◌, Bool, true, not, ◌&&◌, List, [], ◌∷◌, refl}
-use Rattle.std.proofs.Common.{sym, ap, ◌∙◌, inl, inr, eq-eqb, ltb-true, lt-ltb}
-use Rattle.std.proofs.lemmas.Bool.{or_left, or_right, or_cases, and_parts, and_from, both_ways}
+use Rattle.std.proofs.Common.{◌≡◌, ℕ, nat_lt, ◌==◌, Bool, true, ◌&&◌, List, [], ◌∷◌, refl, sym, ap}
+use Rattle.std.proofs.Common.{◌∙◌, eq-eqb, ltb-true, lt-ltb}
+use Rattle.std.proofs.lemmas.Bool.{or_left, or_right, and_parts, and_from, both_ways}
 use Rattle.structure_list.specs.number_sets.Sets.{has, IsWithin}
 use Rattle.structure_list.proofs.number_sets.Cited.{has-listed}
-use Rattle.structure_list.specs.pns_rules.Shape.{Shape, IsProper}
-use Rattle.structure_list.specs.pns_rules.Structure.{is_needed, is_used}
+use Rattle.structure_list.specs.pns_rules.Shape.{Shape}
+use Rattle.structure_list.specs.pns_rules.Structure.{is_needed}
 use Rattle.structure_list.specs.pns_rules.Nodes.{Node, is_free, free_makers}
 use Rattle.structure_list.specs.pns_rules.Ends.{IsUndecided}
-use Rattle.structure_list.proofs.pns_rules.Cited.{is_used-some}
 use Rattle.node_evaluation.specs.Choices.{IsDecisive}
 
 pub decisive_from : (g : Shape) (n : Node) (x u : ℕ) → is_needed g n.inside x ≡ true
@@ -36,15 +35,6 @@ within_first s xs x rest h e =
 pub within_rest : (s : ℕ → Bool) (xs : List ℕ) (x : ℕ) (rest : List ℕ) → IsWithin (has xs) s
     → xs ≡ x ∷ rest → IsWithin (has rest) s
 within_rest s xs x rest h e u r = h u (ap (λ ys. has ys u) e ∙ or_right (x == u) (has rest u) r)
-
--- a needed material is one of the graph's
-pub needed_known : (g : Shape) (o : ℕ → Bool) (x : ℕ) → IsProper g → is_needed g o x ≡ true
-    → x < g.materials
-needed_known g o x proper e = elim (or_cases (g.product x) (not (g.raw x) && is_used g o x) e) [
-  | inl p ↦ proper.product_known x p
-  | inr q ↦ let k = is_used-some g o x (and_parts (not (g.raw x)) (is_used g o x) q).1 in
-      proper.input_known k.0 x k.3
-]
 
 module _ (g : Shape) (n : Node) (x : ℕ) where
   -- a material without a free maker is not to decide

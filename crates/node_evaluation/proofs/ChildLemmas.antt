@@ -1,8 +1,6 @@
 -- What a look at one child more adds to what is seen.
-use Rattle.std.proofs.Common.{◌≡◌, ℕ, ◌+◌, ◌<◌, true, false, Bool, List, [], ◌∷◌, ◌++◌, length}
-use Rattle.std.proofs.Common.{map}
-use Rattle.std.proofs.Common.{Option, Some, None, ℤ, ◌*ℤ◌, ◌≤ℤ◌, ◌↔◌, ◌⊎◌, ◌||◌, IsTrue, refl}
-use Rattle.std.proofs.Common.{sym}
+use Rattle.std.proofs.Common.{◌≡◌, ℕ, ◌+◌, ◌<◌, true, false, Bool, List, [], ◌∷◌, ◌++◌, length, map}
+use Rattle.std.proofs.Common.{Option, Some, None, ℤ, ◌*ℤ◌, ◌≤ℤ◌, ◌↔◌, ◌⊎◌, ◌||◌, IsTrue, refl, sym}
 use Rattle.std.proofs.Common.{ap, ◌∙◌, subst, arith, inl, inr, length-append, true≢false}
 use Rattle.std.specs.Prelude.{is_some}
 use Rattle.std.proofs.lemmas.Int.{ints}
@@ -27,12 +25,13 @@ use Rattle.search_tree.specs.tree_rules.Known.{AreUnits}
 use Rattle.structure_list.specs.pgraph.View.{node_of}
 use Rattle.structure_list.specs.unit_sets.declared.node.Node as places
 use Rattle.search_tree.proofs.Cited.{ways_are_dearer, children_are_sound, leaf_fallen}
-use Rattle.search_tree.proofs.Cited.{reached_dearer, reached_may_undercut, may_any}
+use Rattle.search_tree.proofs.Cited.{reached_dearer, reached_may_undercut, may_any, fallen_same}
 use Rattle.search_tree.specs.Cells.{Cell, no_cell, place_of, cell_at}
 use Rattle.search_tree.specs.Growth.{EndsOpen}
 use Rattle.search_tree.specs.Fits.{Follows}
 use Rattle.search_tree.specs.declared.growth.Fresh.{Fresh}
 use Rattle.search_tree.specs.tree_rules.Costs.{HasFallen}
+use Rattle.structure_list.proofs.unit_sets.Cited.{or_false}
 use Rattle.search_tree.specs.Values.{IsPositiveCost}
 use Rattle.search_tree.specs.Turns.{IsFreshChild}
 use Rattle.node_evaluation.specs.declared.evaluator.PastStop.{PastStop}
@@ -60,10 +59,6 @@ same_costs t a a' b b' c c' d d' ea eb ec ed h =
 pub cost_is : (w : Option claims.Network) → cost_of w ≡ claimed_cost (claim_with w)
 cost_is None = refl
 cost_is (Some w) = refl
-
-fallen_same : (c : Option CostOver) → HasFallen c c
-fallen_same None = tt
-fallen_same (Some v) = omega (arith, ints)
 
 pub same_best : (p : Problem) (n : Node) (best : Option claims.Network) → IsBest p best
     → IsImproved p n best best
@@ -115,10 +110,6 @@ has_bounded-append (c ∷ cs) ds = ap (λ b. is_bounded c.end || b) (has_bounded
     group : (a b c : Bool) → (a || (b || c)) ≡ ((a || b) || c)
     group true b c = refl
     group false b c = refl
-
-or_false : (b : Bool) → (b || false) ≡ b
-or_false true = refl
-or_false false = refl
 
 -- ---- what is stored
 

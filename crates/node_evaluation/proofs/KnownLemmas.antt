@@ -12,8 +12,8 @@ use Rattle.structure_list.specs.pns_rules.Ends.{IsDead, Leads}
 use Rattle.search_tree.specs.tree_rules.Known.{AreUnits, IsMaterial, KnowsStep}
 use Rattle.search_tree.specs.tree_rules.Ways.{Way, MayBranch, options_at}
 use Rattle.search_tree.proofs.tree_laws.Cited.{choices}
-use Rattle.node_evaluation.proofs.BranchChoiceLemmas.{needed_known}
 use Rattle.neutral_extension.specs.Moves.{HasSet}
+use Rattle.neutral_extension.proofs.Cited.{needed_known}
 
 -- the units of an option are units of the problem
 pub known_option : (p : Problem) (n : Node) (w : Way) (t : List ℕ) → IsProper (shape_of p)

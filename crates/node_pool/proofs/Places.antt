@@ -6,7 +6,7 @@ use Rattle.std.proofs.Common.{eq-eqb, ne_eqb, arith}
 use Rattle.std.proofs.lemmas.Bool.{or_cases, both_ways, false_from_ne_true, cases_eq}
 use Rattle.std.specs.List.{find}
 use Rattle.link_lists.specs.Lists.{has, first, following, place_in, IsOnce}
-use Rattle.link_lists.proofs.Cited.{has-here, has-later}
+use Rattle.link_lists.proofs.Cited.{has-here, has-later, first_has, following_has}
 
 -- if a leaf passes, each leaf after it passes
 abbrev pub StaysTrue : (ℕ → Bool) → List ℕ → Type 0
@@ -18,20 +18,6 @@ has-rest x c xs ne h =
     elim (or_cases (x == c) (has xs c) h) [ inl s ↦ absurd (ne (eqb-true x c s)) | inr t ↦ t ]
 
 -- ---- neighbours and places
-
-pub first_has : (xs : List ℕ) (d : ℕ) → first xs ≡ Some d → has xs d ≡ true
-first_has [] d e = cc
-first_has (x ∷ xs) d e = let s : x ≡ d = cc in subst (λ k. has (x ∷ xs) k ≡ true) s (has-here x xs)
-
-pub following_has : (c : ℕ) (xs : List ℕ) (d : ℕ) → following c xs ≡ Some d → has xs d ≡ true
-following_has c [] d e = cc
-following_has c (x ∷ xs) d e = by (x == c) refl (λ q. following_has c xs d q)
-  where
-    by : (b : Bool) → (x == c) ≡ b → (following c xs ≡ Some d → has xs d ≡ true)
-        → has (x ∷ xs) d ≡ true
-    by true q ih =
-        has-later x d xs (first_has xs d (sym (ap (λ t. cond t (first xs) (following c xs)) q) ∙ e))
-    by false q ih = has-later x d xs (ih (sym (ap (λ t. cond t (first xs) (following c xs)) q) ∙ e))
 
 place_here : (x : ℕ) (xs : List ℕ) (c : ℕ) → x ≡ c → place_in c (x ∷ xs) ≡ 0
 place_here x xs c e = ap (λ b. cond b 0 (suc (place_in c xs))) (eq-eqb x c e)

@@ -8,9 +8,10 @@ pub use Rattle.number_sets.proofs.OptionLists.{step_is_next, subset_complete, su
 pub use Rattle.number_sets.proofs.SetLemmas.{AreBelow-higher, AreBelow-listed, IsRising-kept}
 pub use Rattle.number_sets.proofs.SetLemmas.{IsRising-listed, IsRising-union, IsRising-with_number}
 pub use Rattle.number_sets.proofs.SetLemmas.{IsSet-listed, any_below-from, any_below-none}
-pub use Rattle.number_sets.proofs.SetLemmas.{any_below-some, any_below-within, below_from}
-pub use Rattle.number_sets.proofs.SetLemmas.{below_not_had, has-append, has-kept, has-listed}
-pub use Rattle.number_sets.proofs.SetLemmas.{has-meet, has-minus, has-union, has-with_number}
-pub use Rattle.number_sets.proofs.SetLemmas.{has_below, length-less, length-with_number}
-pub use Rattle.number_sets.proofs.SetLemmas.{length-within, length_below, length_listed, listed-is}
-pub use Rattle.number_sets.proofs.SetLemmas.{listed-same, same_length, same_sets, same_tests}
+pub use Rattle.number_sets.proofs.SetLemmas.{any_below-some, any_below-within, append_nil}
+pub use Rattle.number_sets.proofs.SetLemmas.{below_from, below_not_had, has-append, has-first}
+pub use Rattle.number_sets.proofs.SetLemmas.{has-kept, has-listed, has-meet, has-minus, has-rest}
+pub use Rattle.number_sets.proofs.SetLemmas.{has-union, has-with_number, has_below, length-less}
+pub use Rattle.number_sets.proofs.SetLemmas.{length-with_number, length-within, length_below}
+pub use Rattle.number_sets.proofs.SetLemmas.{length_listed, listed-is, listed-same, or_swap}
+pub use Rattle.number_sets.proofs.SetLemmas.{same_length, same_sets, same_tests}

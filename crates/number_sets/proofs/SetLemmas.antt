@@ -57,10 +57,10 @@ same_tests false false f g = refl
 
 -- ---- lists as tests
 
-has-first : (x : ℕ) (xs : List ℕ) → has (x ∷ xs) x ≡ true
+pub has-first : (x : ℕ) (xs : List ℕ) → has (x ∷ xs) x ≡ true
 has-first x xs = or_left (x == x) (has xs x) (eq-eqb x x refl)
 
-has-rest : (x u : ℕ) (xs : List ℕ) → has xs u ≡ true → has (x ∷ xs) u ≡ true
+pub has-rest : (x u : ℕ) (xs : List ℕ) → has xs u ≡ true → has (x ∷ xs) u ≡ true
 has-rest x u xs e = or_right (x == u) (has xs u) e
 
 pub has-append : (xs ys : List ℕ) (u : ℕ) → has (xs ++ ys) u ≡ (has xs u || has ys u)
@@ -277,7 +277,7 @@ pub AreBelow-higher : (m n : ℕ) (xs : List ℕ) → m ≤ n → AreBelow m xs 
 AreBelow-higher m n [] h b = tt
 AreBelow-higher m n (x ∷ xs) h b = (omega (arith, b.0), AreBelow-higher m n xs h b.1)
 
-append_nil : (xs : List ℕ) → xs ++ [] ≡ xs
+pub append_nil : (xs : List ℕ) → xs ++ [] ≡ xs
 append_nil [] = refl
 append_nil (x ∷ xs) = ap (λ w. x ∷ w) (append_nil xs)
 

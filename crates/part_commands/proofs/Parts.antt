@@ -1,6 +1,5 @@
 -- What a search found, as a part that can be printed.
-use Rattle.std.proofs.Common.{◌≡◌, ◌<◌, ◌^◌, ℕ, List, [], ◌∷◌, Option, Some, None, length, sym}
-use Rattle.std.proofs.Common.{subst, arith, inl, inr}
+use Rattle.std.proofs.Common.{◌≡◌, ◌<◌, ◌^◌, ℕ, List, Option, Some, None, length, sym, subst, arith}
 use Rattle.network_commands.specs.number_sets.Sets.{has}
 use Rattle.network_commands.specs.problem_rules.Problem.{Problem}
 use Rattle.network_commands.specs.pns_rules.Nodes.{Node}
@@ -16,23 +15,18 @@ use Rattle.searches.specs.abb_search.declared.outcome.Found.{Found}
 use Rattle.searches.specs.abb_search.declared.outcome.Found.TheVariants as found
 use Rattle.searches.specs.abb_search.Found.{IsFound}
 use Rattle.searches.specs.abb_search.Answers.{IsAgainst}
-use Rattle.network_commands.specs.studio_rules.Solve.{status_of}
 use Rattle.network_commands.specs.studio_rules.Part.{part_from, HoldsFrom, NoDearer, PartSays}
 use Rattle.searches.specs.Found.{certificate_of}
 use Rattle.part_commands.specs.Found.{TextSays, FoundSays}
-use Rattle.network_commands.specs.studio_rules.Ending.{IsOneOf}
 use Rattle.network_commands.specs.studio_rules.declared.status.Status.{Status}
-use Rattle.network_commands.specs.studio_rules.declared.status.Status.TheVariants.{Done, Spent}
-use Rattle.network_commands.specs.studio_rules.declared.status.Status.TheVariants.{Past}
+use Rattle.network_commands.specs.studio_rules.declared.status.Status.TheVariants.{Spent, Past}
+use Rattle.searches.proofs.Cited.{some_is}
 
 pub record CanPrint (p : Problem) (c : Certificate) : Type 0 where
   pub claim : KnowsClaim p c.claim
   pub tree : KnowsTree p c.tree
   pub tail : KnowsTail p c.tail
   pub few : length c.tree < 2 ^ 32
-
-some_is : {A : Type 0} (P : A → Type 0) (a b : A) → Some a ≡ Some b → P a → P b
-some_is P a b e h = subst P (let e' : a ≡ b = cc in e') h
 
 -- what is true of a network is true of the one that is claimed, which is the same
 pub network_is : (P : Network → Type 0) (w known : Network) → network w ≡ network known → P known
@@ -71,13 +65,6 @@ module _ (p : Problem) (n : Node) where
         few = let few = h.0.few in omega (arith, few);
       })
   can_print budget found.Memory h c e = absurd cc
-
--- the statuses of a text
-pub is_printing : (tail : tails.Tail) (status : Status) → status ≡ status_of tail
-    → IsOneOf (Done ∷ Past ∷ Spent ∷ []) status
-is_printing tails.whole status e = inl e
-is_printing (tails.spent next options) status e = inr (inr (inl e))
-is_printing (tails.past node nonbasic place) status e = inr (inl e)
 
 -- ---- what is found, by claim, tree and tail
 

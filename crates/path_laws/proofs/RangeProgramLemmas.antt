@@ -42,15 +42,15 @@ total_small (suc n) m f h =
     omega (arith, x, e)
 
 -- the ends of the range at a place
-low_small : (limit : ℕ) (lows highs : List ℤ) (i : ℕ) → AreRanges limit lows highs → i < length lows
-    → unsigned_abs (get_or lows i (pos 0)) ≤ limit
+pub low_small : (limit : ℕ) (lows highs : List ℤ) (i : ℕ) → AreRanges limit lows highs
+    → i < length lows → unsigned_abs (get_or lows i (pos 0)) ≤ limit
 low_small limit [] highs i r h = absurd (omega arith)
 low_small limit (low ∷ lows) [] i r h = absurd r
 low_small limit (low ∷ lows) (high ∷ highs) zero r h = r.0
 low_small limit (low ∷ lows) (high ∷ highs) (suc i) r h =
     low_small limit lows highs i r.3 (omega arith)
 
-high_small : (limit : ℕ) (lows highs : List ℤ) (i : ℕ) → AreRanges limit lows highs
+pub high_small : (limit : ℕ) (lows highs : List ℤ) (i : ℕ) → AreRanges limit lows highs
     → i < length lows → unsigned_abs (get_or highs i (pos 0)) ≤ limit
 high_small limit [] highs i r h = absurd (omega arith)
 high_small limit (low ∷ lows) [] i r h = absurd r

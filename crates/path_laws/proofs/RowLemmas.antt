@@ -67,7 +67,7 @@ rows_are_combined old pivot new c e pc m =
         ∙ ring (V g ⊗ (V p ⊗ V o ⊖ V q ⊗ V v)) ((V g ⊗ V p) ⊗ V o ⊖ (V g ⊗ V q) ⊗ V v) (omega arith)
         ∙ ap (λ z. z *ℤ o -ℤ (g *ℤ q) *ℤ v) (sym h) ∙ ap (λ z. pc *ℤ o -ℤ z *ℤ v) (sym i)
 
-length_map : (f : ℤ → ℤ) (xs : List ℤ) → length (map f xs) ≡ length xs
+pub length_map : (f : ℤ → ℤ) (xs : List ℤ) → length (map f xs) ≡ length xs
 length_map f [] = refl
 length_map f (x ∷ xs) = ap suc (length_map f xs)
 

@@ -196,11 +196,11 @@ values_rise n b b' T T' s r l e P v ng hs sl own u pr re =
     b' T' s q) (λ q _. rise-pivot b b' T T' s r l e P v ng hs sl own u pr q) re
 
 -- ---- a fraction, its numerator lifted by m times its denominator, in natural numbers
-abs_of : (z : ℤ) → pos 0 ≤ℤ z → pos (unsigned_abs z) ≡ z
+pub abs_of : (z : ℤ) → pos 0 ≤ℤ z → pos (unsigned_abs z) ≡ z
 abs_of (pos n) h = refl
 abs_of (negsuc n) h = absurd (omega (arith, ints))
 
-abs_pos : (z : ℤ) → pos 0 <ℤ z → 0 < unsigned_abs z
+pub abs_pos : (z : ℤ) → pos 0 <ℤ z → 0 < unsigned_abs z
 abs_pos (pos n) h = omega (arith, ints)
 abs_pos (negsuc n) h = absurd (omega (arith, ints))
 
@@ -224,19 +224,20 @@ crossed_same m a b a' b' t t' e e' h =
     let y' = read_equal (V t' ⊕ V (pos m) ⊗ V (pos b')) (V (pos a')) e' in
     omega (arith, x, ap (λ n. n * b') y, ap (λ n. n * b) y')
 
-at_least : (m : ℕ) (t d : ℤ) → pos 0 <ℤ d → pos 0 ≤ℤ (t +ℤ pos m) → pos 0 ≤ℤ (t +ℤ pos m *ℤ d)
+pub at_least : (m : ℕ) (t d : ℤ) → pos 0 <ℤ d → pos 0 ≤ℤ (t +ℤ pos m) → pos 0 ≤ℤ (t +ℤ pos m *ℤ d)
 at_least m t (pos zero) p h = absurd (omega (arith, ints))
 at_least m t (negsuc n) p h = absurd (omega (arith, ints))
 at_least m t (pos (suc n)) p h = omega (arith, ints)
 
-at_most : (m a b : ℕ) (t : ℤ) → 0 < b → t ≤ℤ pos m → t +ℤ pos m *ℤ pos b ≡ pos a → a ≤ b * (2 * m)
+pub at_most : (m a b : ℕ) (t : ℤ) → 0 < b → t ≤ℤ pos m → t +ℤ pos m *ℤ pos b ≡ pos a
+    → a ≤ b * (2 * m)
 at_most m a b t p h e =
     let y = read_equal (V t ⊕ V (pos m) ⊗ V (pos b)) (V (pos a)) e in
     let z = read_le (V t) (V (pos m)) h in
     let w : m * 1 ≤ m * b = mul-le-mul (omega arith) (omega arith) in
     omega arith
 
-digit_most : (m a b : ℕ) → a ≤ b * (2 * m) → digit m a b < 2 * m * (m * m) + 1
+pub digit_most : (m a b : ℕ) → a ≤ b * (2 * m) → digit m a b < 2 * m * (m * m) + 1
 digit_most m a b h =
     let x : a * (m * m) ≤ (b * (2 * m)) * (m * m) = mul-le-mul h (omega arith) in
     let y : a * (m * m) / b ≤ 2 * m * (m * m) = div-le_of_le-mul b (omega (arith, x)) in
@@ -246,7 +247,7 @@ abs_le : (m : ℕ) (z : ℤ) → pos 0 <ℤ z → z ≤ℤ pos m → unsigned_ab
 abs_le m (pos n) p h = omega (arith, ints)
 abs_le m (negsuc n) p h = absurd (omega (arith, ints))
 
-is_lifted : (m : ℕ) (t d : ℤ) → pos 0 <ℤ d → pos 0 ≤ℤ (t +ℤ pos m)
+pub is_lifted : (m : ℕ) (t d : ℤ) → pos 0 <ℤ d → pos 0 ≤ℤ (t +ℤ pos m)
     → t +ℤ pos m *ℤ pos (unsigned_abs d) ≡ pos (unsigned_abs (t +ℤ pos m *ℤ d))
 is_lifted m t d p h =
     let e = abs_of d (omega (arith, ints)) in

@@ -1,6 +1,7 @@
+pub mod Cited
 mod DesignsTaken
 mod Places
 mod Resumed
 mod Taken
-mod Valid
+pub mod Valid
 mod Whole

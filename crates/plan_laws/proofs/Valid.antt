@@ -12,17 +12,15 @@ use Rattle.std.proofs.Math.Nat.{mul-le-mul_left, mul-le-mul_right}
 use Rattle.plan_rules.specs.problem_rules.Each.{Each}
 use Rattle.plan_rules.specs.problem_rules.Names.{has_double}
 use Rattle.plan_rules.specs.problem_rules.Problem.{Problem, Material, Term, OperatingUnit}
-use Rattle.plan_rules.specs.problem_rules.Problem.{no_material}
-use Rattle.plan_rules.specs.problem_rules.Problem.{no_unit, unit_at, is_product, material_names}
-use Rattle.plan_rules.specs.problem_rules.Problem.{unit_names}
+use Rattle.plan_rules.specs.problem_rules.Problem.{no_material, no_unit, unit_at, is_product}
+use Rattle.plan_rules.specs.problem_rules.Problem.{material_names, unit_names}
 use Rattle.plan_rules.specs.problem_rules.Validity.{has_product}
-use Rattle.plan_rules.specs.problem_rules.WellFormed.{IsBound, AreBounds, IsWellFormedMaterial}
+use Rattle.plan_rules.specs.problem_rules.WellFormed.{AreBounds, IsWellFormedMaterial}
 use Rattle.plan_rules.specs.problem_rules.WellFormed.{IsWellFormedTerm, IsWellFormedSide}
-use Rattle.plan_rules.specs.problem_rules.WellFormed.{IsWellFormedUnit}
-use Rattle.plan_rules.specs.problem_rules.WellFormed.{AreRisingFrom, IsWellFormedExclusion}
-use Rattle.plan_rules.specs.problem_rules.WellFormed.{IsWellFormed}
+use Rattle.plan_rules.specs.problem_rules.WellFormed.{IsWellFormedUnit, AreRisingFrom}
+use Rattle.plan_rules.specs.problem_rules.WellFormed.{IsWellFormedExclusion, IsWellFormed}
 use Rattle.plan_rules.proofs.problem_rules.Cited.{known_material}
-use Rattle.text_laws.proofs.Cited.{each-append, each-map, each-to}
+use Rattle.text_laws.proofs.Cited.{each-append, each-map, each-to, zero_bound}
 use Rattle.plan_rules.specs.text_rules.Amount.{number_of}
 use Rattle.plan_rules.specs.Expanded.{first_of, copy_of, capacity_of, at_rate_one, site, sites}
 use Rattle.plan_rules.specs.Expanded.{copy, copies, capacity, capacities, period_materials}
@@ -64,9 +62,6 @@ blocks_before t k w less = let le : suc t * w ≤ k * w = mul-le-mul_right w les
     times_more t w in omega (arith, le, more)
 
 -- ---- amounts
-
-zero_bound : IsBound (pos 0)
-zero_bound = record { in_range = omega arith; not_negative = refl }
 
 no_limit : AreBounds (pos 0) (pos 1000000000000000)
 no_limit =

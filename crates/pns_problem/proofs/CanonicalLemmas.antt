@@ -14,7 +14,7 @@ use Rattle.text_rules.specs.Canonical.{unit_lines, rates_lines, exclusion_lines,
 use Rattle.pns_problem.specs.Printing.{printed, IsPrintable, AreKnown, HasKnownMembers}
 use Rattle.pns_problem.proofs.PrintingLemmas.{after}
 
-printed-append : (xs ys : List (List ℕ)) → printed (xs ++ ys) ≡ printed xs ++ printed ys
+pub printed-append : (xs ys : List (List ℕ)) → printed (xs ++ ys) ≡ printed xs ++ printed ys
 printed-append xs ys = flat_map-append (λ line. line ++ 10 ∷ []) xs ys
 
 pub canonical_is : (p : Problem)

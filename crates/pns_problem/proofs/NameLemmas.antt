@@ -7,12 +7,9 @@ use Rattle.std.specs.String.{string_eq}
 use Rattle.std.specs.List.{list_any, position, position_or_len}
 use Rattle.std.proofs.lemmas.List.{length-map, map-append}
 use Rattle.std.proofs.lemmas.Bool.{cond-false}
-use Rattle.std.proofs.lemmas.Cmp.{nat_list_eq_equiv}
 use Rattle.indexmap.specs.IndexSet.{insert_key}
 use Rattle.text_rules.specs.problem_rules.Names.{is_among}
-
-pub bytes_eq-sym : (xs ys : List ℕ) → bytes_eq xs ys ≡ bytes_eq ys xs
-bytes_eq-sym xs ys = nat_list_eq_equiv.symm xs ys
+use Rattle.text_rules.proofs.problem_rules.Cited.{bytes_eq-sym}
 
 -- a table has the text if it is among the names
 pub has_listed : {Y : Type 0} (text : List ℕ) (keys : List (String Y))

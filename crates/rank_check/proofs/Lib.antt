@@ -8,3 +8,4 @@ pub use Rattle.rank_laws.proofs.number_sets as number_sets
 pub use Rattle.rank_laws.proofs.pns_rules as pns_rules
 pub use Rattle.rank_laws.proofs.tree_laws as tree_laws
 pub use Rattle.rank_laws.proofs as rank_laws
+pub use Rattle.cert_check.proofs as cert_check

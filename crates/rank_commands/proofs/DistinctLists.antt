@@ -12,9 +12,10 @@ use Rattle.searches.specs.rank_search.DistinctListed.{IsListedTo}
 use Rattle.searches.specs.studio_rules.Rank.{Lists}
 use Rattle.searches.specs.studio_rules.Alternates.{Alternates, AlternatesHold, AlternatesWork}
 use Rattle.searches.specs.studio_rules.declared.status.Status.{Status}
+use Rattle.searches.proofs.Cited.{some_is}
 use Rattle.rank_commands.specs.Normal.{normal}
 use Rattle.rank_commands.specs.Found.{ranking_found, CanPrint, FoundSays}
-use Rattle.rank_commands.proofs.Rankings.{some_is, known_text, lists, spent_there, past_there}
+use Rattle.rank_commands.proofs.Rankings.{known_text, lists, spent_there, past_there}
 
 pub can_print : (p : Problem) (count budget : ℕ) (r : Ranked) → IsListedTo p count budget r
     → (t : Text) → ranking_found r ≡ Some t → CanPrint p t

@@ -36,7 +36,7 @@ use Rattle.rank_text.specs.flow_rules.declared.place.Column.{Column}
 use Rattle.rank_text.specs.flow_rules.declared.place.Place.{Place}
 use Rattle.rank_text.specs.tree_rules.Past.{IsPastAt}
 use Rattle.searches.specs.studio_rules.Solve.{status_of}
-use Rattle.searches.proofs.Cited.{tree_counted}
+use Rattle.searches.proofs.Cited.{tree_counted, some_is}
 use Rattle.searches.specs.studio_rules.Lines.{text_of}
 use Rattle.searches.specs.studio_rules.Printed.{spelled, OneAnswer}
 use Rattle.searches.specs.studio_rules.declared.status.Status.{Status}
@@ -45,9 +45,6 @@ use Rattle.rank_commands.specs.Normal.{normal, marks_for, IsMarkInRange}
 use Rattle.searches.specs.studio_rules.Rank.{AreTextOf, lean_cost, Lists, Ranks, Holds, RankWork}
 use Rattle.rank_commands.specs.Found.{ranking_found, CanPrint, RankingSays, FoundSays}
 use Rattle.rank_commands.proofs.Marks.{marks_for_length, same_tree, marks_for_bare, marks_for_fit}
-
-pub some_is : {A : Type 0} (P : A → Type 0) (a b : A) → Some a ≡ Some b → P a → P b
-some_is P a b e h = subst P (let e' : a ≡ b = cc in e') h
 
 -- ---- the text
 

@@ -13,11 +13,12 @@ use Rattle.rank_check.specs.tree_rules.Lean.{MayUndercut, HasCheaper}
 use Rattle.rank_check.specs.rank_rules.Networks.{cost_of, last_cost}
 use Rattle.abb_search.specs.search_tree.Values.{IsPositive, IsPositiveCost}
 use Rattle.rank_check.specs.tree_rules.Costs.{IsNoMore, HasFallen}
-use Rattle.abb_search.proofs.search_tree.Cited.{fraction_trans, reached_may_undercut}
+use Rattle.rank_check.proofs.cert_check.Cited.{append_none}
+use Rattle.abb_search.proofs.search_tree.Cited.{fraction_trans, reached_may_undercut, fallen_same}
 use Rattle.abb_search.specs.node_evaluation.Evaluated.{cost_in}
 use Rattle.rank_search.specs.Found.{FoundAt, networks_of, undercut_by, AreRising}
 use Rattle.rank_search.specs.Listed.{Listed, AreScaled, IsListed, AreDearer, IsAdded, AreAdded}
-use Rattle.rank_search.proofs.PlaceLemmas.{take_all, append_none, length_taken, rising_between}
+use Rattle.rank_search.proofs.PlaceLemmas.{take_all, length_taken, rising_between}
 use Rattle.rank_search.proofs.PlaceLemmas.{scaled_between, listed_more}
 
 -- ---- the cost that is to be undercut
@@ -60,10 +61,6 @@ undercut_positive l h = by (length (networks_of l.found) == l.count)
     by false = tt
 
 -- ---- the front of a list
-
-pub fallen_same : (c : Option CostOver) → HasFallen c c
-fallen_same None = tt
-fallen_same (Some v) = omega (arith, ints)
 
 -- the first costs no more than the last
 first_to_last : (f : FoundAt) (fs : List FoundAt) → AreRising (f ∷ fs) → AreScaled (f ∷ fs)

@@ -1,4 +1,5 @@
 pub mod BestLemmas
+pub mod Cited
 pub mod ClosingLemmas
 pub mod CostLemmas
 pub mod DistinctNameLemmas

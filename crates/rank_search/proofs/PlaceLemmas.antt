@@ -1,16 +1,18 @@
 -- The place of a network in a list that rises in cost, and what the list is then.
 use Rattle.std.specs.Prelude.{slice_index_or, int_le, drop, IsTrue, ◌↔◌}
-use Rattle.std.proofs.Common.{◌≡◌, ℕ, zero, suc, ◌+◌, ◌<◌, ◌≤◌, pos, ℤ, ◌*ℤ◌, ◌≤ℤ◌, ◌<ℤ◌, Bool}
-use Rattle.std.proofs.Common.{true, false, List, [], ◌∷◌, ◌++◌, length, take, Option, refl, sym, ap}
-use Rattle.std.proofs.Common.{◌∙◌, subst, arith, T}
+use Rattle.std.proofs.Common.{◌≡◌, ℕ, zero, suc, ◌+◌, ◌<◌, ◌≤◌, pos, ℤ, ◌*ℤ◌, ◌≤ℤ◌, Bool, true}
+use Rattle.std.proofs.Common.{false, List, [], ◌∷◌, ◌++◌, length, take, Option, refl, sym, ap}
+use Rattle.std.proofs.Common.{subst, arith, T}
 use Rattle.std.specs.Int.Signed.{le_z, le_z_yes}
 use Rattle.std.specs.List.{AllWithin}
 use Rattle.std.specs.List.Sorted.{IsPartitionedBy}
 use Rattle.std.proofs.lemmas.Float.{T_from_true}
-use Rattle.std.proofs.lemmas.Int.{ints, by_lt_z}
+use Rattle.std.proofs.lemmas.Int.{ints}
 use Rattle.rank_check.specs.tree_rules.Claim.{Network}
 use Rattle.abb_search.proofs.search_tree.Cited.{fraction_trans}
 use Rattle.rank_check.specs.rank_rules.Networks.{IsNoCheaper}
+use Rattle.rank_check.proofs.tree_laws.Cited.{false_lt}
+use Rattle.rank_check.proofs.cert_check.Cited.{append_none}
 use Rattle.rank_search.specs.Found.{FoundAt, AreRising}
 use Rattle.rank_search.specs.Listed.{Listed, AreScaled, IsListed, AreNoDearer, AreDearer, IsAdded}
 use Rattle.rank_search.specs.Listed.{IsSomeAdded, AreAdded}
@@ -26,10 +28,6 @@ le_true x y h = true_from_T (le_z x y) h.le
 
 true_le : (x y : ℤ) → int_le x y ≡ true → x ≤ℤ y
 true_le x y h = le_z_yes (T_from_true (le_z x y) h)
-
-false_lt : (x y : ℤ) → int_le x y ≡ false → y <ℤ x
-false_lt x y h =
-    by_lt_z y x (λ lt. lt) (λ le. absurd (let t : true ≡ false = sym (le_true x y le) ∙ h in cc))
 
 -- whether the network costs at least what the one that was found does
 abbrev pub is_no_dearer : Network → FoundAt → Bool
@@ -132,10 +130,6 @@ pub length_taken : {X : Type 0} (n : ℕ) (xs : List X) → n ≤ length xs → 
 length_taken zero xs le = refl
 length_taken (suc n) [] le = absurd (omega (arith, le))
 length_taken (suc n) (x ∷ xs) le = ap suc (length_taken n xs (omega (arith, le)))
-
-pub append_none : {X : Type 0} (xs : List X) → xs ++ [] ≡ xs
-append_none [] = refl
-append_none (x ∷ xs) = ap (λ ys. x ∷ ys) (append_none xs)
 
 -- it is put at its place, and the list shortened to as many as are asked for
 pub added : (old new : Listed) (f : FoundAt) (at : ℕ) → AreNoDearer (take at old.found) f.network

@@ -8,18 +8,18 @@ use Rattle.rank_check.specs.pns_rules.Ends.{IsSound}
 use Rattle.rank_check.specs.pgraph.View.{node_of}
 use Rattle.rank_check.specs.unit_sets.declared.node.Node as starts
 use Rattle.rank_check.specs.tree_rules.Tree.{End, leaf}
-use Rattle.rank_check.specs.tree_rules.Leaf.{Leaf, dead, clash, refuted, bounded, charged, untried}
+use Rattle.rank_check.specs.tree_rules.Leaf.{Leaf, bounded}
 use Rattle.rank_check.specs.tree_rules.Claim.{Network, CostOver}
 use Rattle.rank_check.specs.tree_rules.Accepted.{first_node}
 use Rattle.abb_search.specs.search_tree.Cells.{Cell, place_of, cell_at}
 use Rattle.abb_search.specs.search_tree.Values.{IsPositiveCost}
-use Rattle.abb_search.specs.search_tree.Kept.{LeafIsKept, EndIsKept}
+use Rattle.abb_search.specs.search_tree.Kept.{EndIsKept}
 use Rattle.abb_search.specs.node_evaluation.Evaluated.{PastPlaces}
 use Rattle.abb_search.specs.node_evaluation.Children.{AreSolvedBy}
 use Rattle.abb_search.specs.declared.growing.Growing.{Growing}
 use Rattle.abb_search.specs.declared.growing.StoppedLeaf.{StoppedLeaf}
 use Rattle.abb_search.specs.Growing.{IsTreeKept, IsTreeKeptFor, GoesOn, GoesOnFor, IsLookedRoot}
-use Rattle.abb_search.proofs.Cited.{child_same, root_after}
+use Rattle.abb_search.proofs.Cited.{child_same, root_after, leaf_kept}
 use Rattle.rank_search.specs.Found.{FoundAt, AreBest, undercut_by}
 use Rattle.rank_search.specs.Listed.{Listed, IsListed, AreAdded}
 use Rattle.rank_search.proofs.CostLemmas.{undercut_positive}
@@ -36,15 +36,6 @@ first_is_sound g =
           λ u x in_it makes raw. absurd cc;
       leads = λ u in_it. absurd cc;
     }
-
--- no leaf was branched
-leaf_kept : (p : Problem) (n : Node) (l : Leaf) → LeafIsKept p None n l
-leaf_kept p n (dead x) = tt
-leaf_kept p n (clash k) = tt
-leaf_kept p n (refuted ys) = tt
-leaf_kept p n (bounded d ys) = tt
-leaf_kept p n (charged c) = tt
-leaf_kept p n (untried low) = λ alive. tt
 
 module _ (Past : PastPlaces) (p : Problem) (start : starts.Node) (budget : ℕ) (s : Growing)
     (h : IsLookedRoot Past p start budget None s) (some : 1 ≤ budget) where

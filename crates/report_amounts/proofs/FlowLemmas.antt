@@ -11,14 +11,14 @@ use Rattle.report_rules.specs.integer_laws.Total.{total}
 use Rattle.report_rules.specs.number_sets.Sets.{has, kept, listed, IsSet, IsWithin}
 use Rattle.report_rules.proofs.number_sets.Cited.{has-kept, has-listed, same_sets, IsRising-kept}
 use Rattle.report_rules.proofs.number_sets.Cited.{IsRising-listed, listed-is, below_from}
-use Rattle.report_rules.proofs.number_sets.Cited.{any_below-some}
 use Rattle.report_rules.specs.pns_rules.Shape.{Shape, IsProper}
-use Rattle.report_rules.specs.pns_rules.Structure.{mats, is_used, is_made}
+use Rattle.report_rules.specs.pns_rules.Structure.{mats}
 use Rattle.report_rules.specs.flow_rules.Net.{Net}
 use Rattle.report_rules.specs.flow_rules.Flows.{balance}
 use Rattle.report_rules.specs.flow_rules.Steps.{AreInRange}
 use Rattle.report_rules.specs.flow_rules.FeasibleSteps.{units_at, balance_steps, materials_steps}
 use Rattle.report_rules.proofs.flow_rules.Cited.{int_eq_other, zero_from}
+use Rattle.flow_evaluator.proofs.flow_program.Cited.{mats_known}
 use Rattle.report_amounts.proofs.Walk.{rest_within}
 
 -- whether the unit has a rate of the material
@@ -31,12 +31,6 @@ pub record IsMadeSoFar (net : Net) (z : ℕ → ℤ) (j : ℕ) (set : List ℕ) 
   pub value : made +ℤ total (λ i. net.rate j i *ℤ z i) left ≡ total (λ i. net.rate j i *ℤ z i) set
   pub steps : AreInRange (balance_steps net z j (kept (has_rate net j) left) made)
   pub in_range : InRange made
-
-and_swap : (a b : Bool) → (a && b) ≡ (b && a)
-and_swap true true = refl
-and_swap true false = refl
-and_swap false true = refl
-and_swap false false = refl
 
 pub units_are : (net : Net) (set : List ℕ) (j : ℕ) → IsSet 128 set
     → ((u : ℕ) → has set u ≡ true → u < net.graph.units)
@@ -174,16 +168,6 @@ material_in_range net s z (x ∷ js) j h e =
 and_second : (a b : Bool) → (a && b) ≡ true → b ≡ true
 and_second true b h = h
 and_second false b h = let f : false ≡ true = h in cc
-
-pub mats_known : (g : Shape) → IsProper g → (s : ℕ → Bool) (j : ℕ) → mats g s j ≡ true
-    → j < g.materials
-mats_known g proper s j h = at (is_used g s j) refl h
-  where
-    at : (b : Bool) → is_used g s j ≡ b → (b || is_made g s j) ≡ true → j < g.materials
-    at true e h = let w = any_below-some g.units (λ u. s u && g.uses u j) e in
-        proper.input_known w.0 j (and_second (s w.0) (g.uses w.0 j) w.2)
-    at false e h = let w = any_below-some g.units (λ u. s u && g.makes u j) h in
-        proper.output_known w.0 j (and_second (s w.0) (g.makes w.0 j) w.2)
 
 pub materials_are : (g : Shape) → IsProper g → (s : ℕ → Bool) (materials : List ℕ)
     → has materials ≡ mats g s → IsSet 256 materials → materials ≡ listed g.materials (mats g s)

@@ -3,7 +3,6 @@ mod Division
 pub mod FlowLemmas
 mod Fractions
 pub mod Known
-pub mod ReadLemmas
 mod RowLemmas
 pub mod SizeLemmas
 mod Sums
@@ -11,3 +10,4 @@ pub mod Walk
 pub use Rattle.report_rules.proofs.number_sets as number_sets
 pub use Rattle.report_rules.proofs.flow_rules as flow_rules
 pub use Rattle.flow_evaluator.proofs.pns_problem as pns_problem
+pub use Rattle.flow_evaluator.proofs.flow_program as flow_program

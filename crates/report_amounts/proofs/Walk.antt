@@ -1,7 +1,8 @@
 -- A walk over a set: what is left of it is of the set.
 use Rattle.std.proofs.Common.{◌≡◌, ℕ, Bool, true, List, ◌∷◌, subst}
 use Rattle.report_rules.specs.number_sets.Sets.{has, IsWithin}
-use Rattle.flow_evaluator.proofs.flow_program.Cited.{has-rest, head_had}
+use Rattle.report_rules.proofs.number_sets.Cited.{has-rest}
+use Rattle.flow_evaluator.proofs.flow_program.Cited.{head_had}
 
 pub all_within : (left set : List ℕ) → left ≡ set → IsWithin (has left) (has set)
 all_within left set e u h = subst (λ (us : List ℕ). has us u ≡ true) e h

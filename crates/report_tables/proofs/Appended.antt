@@ -2,7 +2,8 @@
 use Rattle.std.proofs.Common.{◌≡◌, ℕ, List, [], ◌∷◌, ◌++◌, sym, ap, ◌∙◌, append_assoc, append-nil}
 use Rattle.std.specs.Prelude.{flat_map}
 use Rattle.cert_check.specs.pns_problem.Printing.{printed}
-use Rattle.report_tables.proofs.Pieces.{after, after_five, printed-append}
+use Rattle.report_amounts.proofs.pns_problem.Cited.{printed-append}
+use Rattle.report_tables.proofs.Pieces.{after, after_five}
 
 -- ---- walks
 

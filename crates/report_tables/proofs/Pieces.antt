@@ -1,8 +1,9 @@
 -- Pieces appended one after another.
-use Rattle.std.proofs.Common.{◌≡◌, ℕ, List, [], ◌∷◌, ◌++◌, map, refl, sym, ap, ◌∙◌, append_assoc}
+use Rattle.std.proofs.Common.{◌≡◌, ℕ, List, [], ◌∷◌, ◌++◌, map, sym, ap, ◌∙◌, append_assoc}
 use Rattle.std.proofs.Common.{append-nil}
 use Rattle.std.specs.Prelude.{flat_map}
 use Rattle.cert_check.specs.pns_problem.Printing.{printed}
+use Rattle.report_amounts.proofs.pns_problem.Cited.{printed-append}
 
 pub after : {X : Type 0} (old t1 t2 x y : List X) → t1 ≡ old ++ x → t2 ≡ t1 ++ y
     → t2 ≡ old ++ (x ++ y)
@@ -57,11 +58,6 @@ last_piece piece left text whole e h =
     sym (append-nil text) ∙ ap (λ (ks : List ℕ). text ++ flat_map piece ks) (sym e) ∙ h
 
 -- ---- lines
-
-pub printed-append : (xs ys : List (List ℕ)) → printed (xs ++ ys) ≡ printed xs ++ printed ys
-printed-append [] ys = refl
-printed-append (x ∷ xs) ys = ap (λ t. (x ++ 10 ∷ []) ++ t) (printed-append xs ys)
-    ∙ sym (append_assoc (x ++ 10 ∷ []) (printed xs) (printed ys))
 
 pub parts_printed : (a b c d e : List (List ℕ)) (old t1 t2 t3 t4 t5 : List ℕ)
     → t1 ≡ old ++ printed a → t2 ≡ t1 ++ printed b → t3 ≡ t2 ++ printed c → t4 ≡ t3 ++ printed d

@@ -1,8 +1,9 @@
+pub mod Cited
 pub mod SignLemmas
 pub mod OptimalLemmas
 mod SettledLemmas
 mod SumLemmas
-mod ProgramLemmas
+pub mod ProgramLemmas
 mod DivisorLemmas
 mod FoundLemmas
 pub use Rattle.tree_rules.proofs.integer_laws as integer_laws

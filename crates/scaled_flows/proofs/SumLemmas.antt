@@ -5,7 +5,7 @@ use Rattle.std.proofs.lemmas.Int.{ints}
 use Rattle.tree_rules.specs.integer_laws.Range.{InRange}
 use Rattle.tree_rules.specs.integer_laws.Total.{total}
 use Rattle.tree_rules.specs.number_sets.Sets.{has, IsWithin}
-use Rattle.flow_program.proofs.Cited.{IsNext, rest_within, passed}
+use Rattle.flow_program.proofs.Cited.{IsNext, rest_within, passed, nothing_more}
 
 -- what `left` adds is still to be added to the sum
 pub record IsSumSoFar (f : ℕ → ℤ) (whole : List ℕ) (sum : ℤ) (left : List ℕ) : Type 0 where
@@ -17,9 +17,6 @@ zero_sum a = omega (arith, ints)
 
 pub sum_begins : (f : ℕ → ℤ) (whole : List ℕ) → IsSumSoFar f whole (pos 0) whole
 sum_begins f whole = record { within = λ x h. h; value = zero_sum (total f whole) }
-
-nothing_more : (a b : ℤ) → b ≡ pos 0 → a ≡ a +ℤ b
-nothing_more a b e = omega (arith, ints)
 
 pub sum_ends : (f : ℕ → ℤ) (whole : List ℕ) (sum : ℤ) (left : List ℕ) → left ≡ []
     → IsSumSoFar f whole sum left → sum ≡ total f whole

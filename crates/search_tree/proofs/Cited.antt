@@ -1,7 +1,7 @@
 -- What the proofs of other crates cite.
 pub use Rattle.search_tree.proofs.CountLemmas.{once, preorder_has_all}
 pub use Rattle.search_tree.proofs.FractionLemmas.{fraction_trans}
-pub use Rattle.search_tree.proofs.GrowLemmas.{leaf_fallen}
+pub use Rattle.search_tree.proofs.GrowLemmas.{fallen_same, leaf_fallen}
 pub use Rattle.search_tree.proofs.GrowthLemmas.{others_stay, placed_new, placed_stays, without_gone}
 pub use Rattle.search_tree.proofs.KeptLemmas.{branching_is_kept, shutting_is_kept}
 pub use Rattle.search_tree.proofs.LeanLemmas.{kept_is_lean, kept_is_spent, open_stands}

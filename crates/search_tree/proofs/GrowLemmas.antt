@@ -210,7 +210,7 @@ module _ (p : Problem) (start : Node) (claimed fallen : Option CostOver)
   }
 
 -- ---- open leaves are shut
-fallen_same : (c : Option CostOver) → HasFallen c c
+pub fallen_same : (c : Option CostOver) → HasFallen c c
 fallen_same None = tt
 fallen_same (Some v) = omega (arith, ints)
 

@@ -8,20 +8,17 @@ use Rattle.std.proofs.lemmas.Bool.{or_left, or_right, or_cases, both_ways, false
 use Rattle.std.proofs.lemmas.Bool.{true_from_ne_false}
 use Rattle.tree_laws.specs.integer_laws.Total.{total}
 use Rattle.tree_laws.proofs.integer_laws.Cited.{ring_z, mul_nonneg, mul-le_left, mul-le_right}
-use Rattle.tree_laws.proofs.integer_laws.Cited.{total-mul}
-use Rattle.tree_laws.proofs.integer_laws.Cited.{total-zero, total-add, total-le}
+use Rattle.tree_laws.proofs.integer_laws.Cited.{total-mul, total-add, total-le}
 use Rattle.tree_laws.specs.pns_rules.Structure.{mats, is_used, is_made}
 use Rattle.tree_laws.specs.pns_rules.Nodes.{Node}
 use Rattle.tree_laws.specs.pns_rules.Ends.{IsDead, IsNever}
 use Rattle.tree_laws.proofs.pns_rules.Cited.{is_made-from}
 use Rattle.tree_laws.specs.flow_rules.Net.{Net, million, trillion, size_cost, units_of}
-use Rattle.tree_laws.specs.flow_rules.Flows.{balance}
 use Rattle.tree_laws.specs.flow_rules.Relaxed.{stays, units, slope, unit_cost, fixed_cost, row_low}
-use Rattle.tree_laws.specs.flow_rules.Relaxed.{row_high}
-use Rattle.tree_laws.specs.flow_rules.Relaxed.{row_balance, IsRelaxed, relaxed_cost}
+use Rattle.tree_laws.specs.flow_rules.Relaxed.{row_high, row_balance, IsRelaxed, relaxed_cost}
 use Rattle.tree_laws.proofs.flow_rules.Cited.{All-listed, total-sets, within_larger, IsNet}
-use Rattle.tree_laws.proofs.flow_rules.Cited.{slope_positive}
-use Rattle.tree_laws.proofs.flow_rules.Cited.{slope_below, rate_of_other, mats_within}
+use Rattle.tree_laws.proofs.flow_rules.Cited.{slope_positive, slope_below, mats_within, no_balance}
+use Rattle.tree_laws.proofs.flow_rules.Cited.{scaled_positive}
 use Rattle.search_tree.specs.Below.{IsBelow}
 
 -- ---- the size of a unit: b, it is taken in; b', below; o', it is left out below
@@ -47,11 +44,6 @@ size_high true least most d z p r q h =
     omega (arith, ints)
 
 -- ---- the balance g of a material: r, it is raw; keep, it has to be there; keep', below; t, it is
--- a row below
-scaled_positive : (x d : ℤ) → pos 0 ≤ℤ x → pos 1 ≤ℤ d → pos 0 ≤ℤ (million *ℤ x *ℤ d)
-scaled_positive x d p q =
-    mul_nonneg (million *ℤ x) d (mul_nonneg million x (omega (arith, ints)) p) (omega (arith, ints))
-
 balance_low : (r keep keep' t : Bool) (lower upper d g : ℤ) → pos 0 ≤ℤ lower → lower ≤ℤ upper
     → pos 1 ≤ℤ d
     → (keep ≡ true → keep' ≡ true) → (keep ≡ true → t ≡ true)
@@ -119,16 +111,6 @@ same_term true true r z sub = refl
 same_term true false r z sub = let e = sub refl in cc
 same_term false true r z sub = omega (arith, ints)
 same_term false false r z sub = refl
-
-no_rate : (r z : ℤ) → r ≡ pos 0 → r *ℤ z ≡ pos 0
-no_rate r z e = rw e (omega (arith, ints))
-
-no_balance : (net : Net) → IsNet net → (s : ℕ → Bool) (z : ℕ → ℤ) (j : ℕ)
-    → mats net.graph s j ≡ false → balance net s z j ≡ pos 0
-no_balance net valid s z j none =
-    total-zero (λ i. net.rate j i *ℤ z i) (units_of net s)
-    (All-listed (λ i. net.rate j i *ℤ z i ≡ pos 0) net.graph.units s
-    (λ i l h. no_rate (net.rate j i) (z i) (rate_of_other net valid s j i none l h)))
 
 -- the fixed costs, as a sum over units that have all those taken in
 fixed_over : (net : Net) (n m : Node) → ((i : ℕ) → m.inside i ≡ true → stays n i ≡ true)

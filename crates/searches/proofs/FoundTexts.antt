@@ -3,8 +3,6 @@ use Rattle.std.proofs.Common.{◌≡◌, ◌<◌, ◌^◌, ℕ, false, List, [],
 use Rattle.std.proofs.Common.{length, refl, sym, ap, subst, ◌∙◌, arith, inl, inr}
 use Rattle.tree_text.specs.problem_rules.Problem.{Problem}
 use Rattle.tree_text.specs.problem_rules.Validity.{IsValid}
-use Rattle.tree_text.specs.pns_rules.Shape.{Shape}
-use Rattle.tree_text.specs.pns_rules.Ends.{IsSound}
 use Rattle.tree_text.specs.tree_rules.Claim as claims
 use Rattle.tree_text.specs.tree_rules.Claim.{Claim, Network, claimed_cost, ClaimPasses, IsFeasible}
 use Rattle.tree_text.specs.tree_rules.Accepted.{Tree, first_node}
@@ -28,17 +26,6 @@ use Rattle.command_files.specs.studio_rules.Solve.{AreTextOf, Solves, Holds, sta
 use Rattle.command_files.specs.studio_rules.Summary.{SummaryWork}
 use Rattle.searches.specs.Found.{certificate_of, CertificateSays, FoundSays}
 
--- nothing is decided at the first node
-pub first_is_sound : (g : Shape) → IsSound g first_node
-first_is_sound g =
-    record {
-      known = λ u in_it. absurd cc;
-      apart = λ u in_it. absurd cc;
-      no_raw =
-          λ u x in_it makes raw. absurd cc;
-      leads = λ u in_it. absurd cc;
-    }
-
 -- ---- a certificate can be printed
 
 pub record CanPrint (p : Problem) (c : Certificate) : Type 0 where
@@ -47,7 +34,7 @@ pub record CanPrint (p : Problem) (c : Certificate) : Type 0 where
   pub tail : KnowsTail p c.tail
   pub few : length c.tree < 2 ^ 32
 
-some_is : {A : Type 0} (P : A → Type 0) (a b : A) → Some a ≡ Some b → P a → P b
+pub some_is : {A : Type 0} (P : A → Type 0) (a b : A) → Some a ≡ Some b → P a → P b
 some_is P a b e h = subst P (let e' : a ≡ b = cc in e') h
 
 pub can_print : (budget : ℕ) (p : Problem) (f : Found) → IsFound p first_node budget f

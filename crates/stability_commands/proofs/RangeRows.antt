@@ -3,10 +3,10 @@ use Rattle.std.proofs.Common.{◌≡◌, ◌<◌, ◌∙◌, ℕ, true, List, []
 use Rattle.std.proofs.Common.{ap, subst, append_assoc, append-nil}
 use Rattle.std.specs.Prelude.{flat_map}
 use Rattle.stability.specs.number_sets.Sets.{has}
+use Rattle.stability.proofs.number_sets.Cited.{has-first, has-rest}
 use Rattle.stability.specs.problem_rules.Each.{Each}
 use Rattle.stability.specs.problem_rules.Problem.{Problem}
 use Rattle.stability.specs.flow_rules.Net.{net_of, materials_of}
-use Rattle.stability.proofs.flow_program.Cited.{has-first, has-rest}
 use Rattle.stability.specs.tree_rules.Claim.{Network, IsFeasible}
 use Rattle.network_commands.proofs.report_amounts.Cited.{material_known}
 use Rattle.stability.specs.report_rules.declared.spot.Spot.{Spot}

@@ -17,21 +17,19 @@ use Rattle.stability.specs.abb_search.declared.outcome.Found.TheVariants as foun
 use Rattle.stability.specs.abb_search.Found.{IsFound}
 use Rattle.network_commands.specs.studio_rules.Solve.{status_of, PlainWork}
 use Rattle.searches.specs.Found.{certificate_of}
-use Rattle.searches.proofs.Cited.{CanPrint, can_print, found_solves, are_text}
+use Rattle.searches.proofs.Cited.{CanPrint, can_print, found_solves, are_text, some_is}
 use Rattle.stability.specs.report_rules.declared.spot.Spot.{Spot}
 use Rattle.stability.specs.report_rules.declared.side.Side.{Side}
 use Rattle.stability.specs.report_rules.Spot.{KnowsSpot, valued, IsAllowedValue}
 use Rattle.stability.specs.report_rules.Range.{IsCheaper, EndsAt, beyond, IsRange, IsHalfProved}
-use Rattle.stability.specs.report_rules.Range.{MayWant}
-use Rattle.stability.specs.report_rules.Range.{IsPastCost}
+use Rattle.stability.specs.report_rules.Range.{MayWant, IsPastCost}
 use Rattle.stability.specs.stability_laws.Laws.{ShapeStays}
 use Rattle.network_commands.specs.studio_rules.Printed.{spelled, OneAnswer}
 use Rattle.network_commands.specs.studio_rules.declared.status.Status.{Status}
 use Rattle.network_commands.specs.studio_rules.declared.status.Status.TheVariants.{Done, Past}
 use Rattle.network_commands.specs.studio_rules.declared.status.Status.TheVariants.{Spent, NotBest}
 use Rattle.network_commands.specs.studio_rules.Stable.{range_lines, not_best_lines, at_line}
-use Rattle.network_commands.specs.studio_rules.Stable.{past_cost_lines}
-use Rattle.network_commands.specs.studio_rules.Stable.{SpotWork}
+use Rattle.network_commands.specs.studio_rules.Stable.{past_cost_lines, SpotWork}
 use Rattle.stability_commands.specs.Beyond.{KnowsBeyond, StopSays}
 
 -- a network that is feasible with another value in the spot has units of the problem
@@ -43,9 +41,6 @@ knows_beyond stays p spot known w side end (Some n) h =
     below_from (length p.units) n.units
     (λ u e. subst (λ (g : Shape). u < g.units) (stays p spot known (beyond side end))
     (h.1.feasible.structure.s3 u e))
-
-some_is : {A : Type 0} (P : A → Type 0) (a b : A) → Some a ≡ Some b → P a → P b
-some_is P a b e h = subst P (let e' : a ≡ b = cc in e') h
 
 -- what was found can be printed for an equal problem
 pub can_print_there : (q r : Problem) (budget : ℕ) (f : Found) (c : Certificate)

@@ -6,25 +6,21 @@ use Rattle.std.proofs.lemmas.Int.{ints}
 use Rattle.std.proofs.lemmas.Bool.Decides.{eqb_tells}
 use Rattle.report_rules.specs.integer_laws.Total.{total, total_below}
 use Rattle.report_rules.proofs.integer_laws.Cited.{ring, Polynomial, V, N, ◌⊕◌, ◌⊖◌, ◌⊗◌, Neg}
-use Rattle.report_rules.proofs.integer_laws.Cited.{mul_nonneg}
-use Rattle.report_rules.proofs.integer_laws.Cited.{mul-le_left, mul-le_right, le_trans_z, total-add}
-use Rattle.report_rules.proofs.integer_laws.Cited.{total-mul}
-use Rattle.report_rules.proofs.integer_laws.Cited.{total-same, total-zero, total_below-sub}
-use Rattle.report_rules.proofs.integer_laws.Cited.{total_below-single}
+use Rattle.report_rules.proofs.integer_laws.Cited.{mul_nonneg, mul-le_left, mul-le_right}
+use Rattle.report_rules.proofs.integer_laws.Cited.{le_trans_z, total-add, total-mul, total-same}
+use Rattle.report_rules.proofs.integer_laws.Cited.{total_below-sub, total_below-single}
 use Rattle.report_rules.specs.number_sets.Sets.{listed}
 use Rattle.report_rules.specs.problem_rules.Problem.{Problem, Material, material_at, unit_at}
-use Rattle.report_rules.specs.problem_rules.Problem.{rate_of}
-use Rattle.report_rules.specs.problem_rules.Problem.{is_raw_material, is_product}
+use Rattle.report_rules.specs.problem_rules.Problem.{rate_of, is_raw_material, is_product}
 use Rattle.report_rules.specs.problem_rules.Validity.{IsValid}
 use Rattle.report_rules.proofs.problem_rules.Cited.{well_formed_from_valid}
 use Rattle.report_rules.specs.pns_rules.Shape.{shape_of}
 use Rattle.report_rules.specs.pns_rules.Structure.{mats, IsStructure}
 use Rattle.report_rules.specs.flow_rules.Net.{Net, net_of, million, trillion, size_cost, units_of}
-use Rattle.report_rules.specs.flow_rules.Net.{low_end}
-use Rattle.report_rules.specs.flow_rules.Net.{high_end}
+use Rattle.report_rules.specs.flow_rules.Net.{low_end, high_end}
 use Rattle.report_rules.specs.flow_rules.Flows.{IsFlows, balance, cost}
-use Rattle.report_rules.proofs.flow_rules.Cited.{All-listed, total-listed, IsNet, net_of_valid}
-use Rattle.report_rules.proofs.flow_rules.Cited.{not_negative_from, rate_of_other}
+use Rattle.report_rules.proofs.flow_rules.Cited.{total-listed, IsNet, net_of_valid}
+use Rattle.report_rules.proofs.flow_rules.Cited.{not_negative_from, no_balance}
 use Rattle.report_rules.specs.declared.spot.Spot.{Spot}
 use Rattle.report_rules.specs.declared.spot.Spot.TheVariants.{Price, Fix, Proportional}
 use Rattle.report_rules.specs.declared.side.Side.{Side}
@@ -194,16 +190,6 @@ one_term f n u s h =
 record IsLeft (p : Problem) (x : ℕ) (left d : ℤ) : Type 0 where
   least : ((million *ℤ least_left p x) *ℤ d) ≤ℤ left
   most : left ≤ℤ ((million *ℤ most_left p x) *ℤ d)
-
-no_balance : (net : Net) → IsNet net → (s : ℕ → Bool) (z : ℕ → ℤ) (j : ℕ)
-    → mats net.graph s j ≡ false → balance net s z j ≡ pos 0
-no_balance net valid s z j none =
-    total-zero (λ i. net.rate j i *ℤ z i) (units_of net s)
-    (All-listed (λ i. net.rate j i *ℤ z i ≡ pos 0) net.graph.units s
-    (λ i l h. no_rate (net.rate j i) (z i) (rate_of_other net valid s j i none l h)))
-  where
-    no_rate : (r y : ℤ) → r ≡ pos 0 → r *ℤ y ≡ pos 0
-    no_rate r y e = rw e (omega (arith, ints))
 
 scaled_up : (a b d : ℤ) → a ≤ℤ b → pos 0 ≤ℤ d → ((million *ℤ a) *ℤ d) ≤ℤ ((million *ℤ b) *ℤ d)
 scaled_up a b d h k =

@@ -79,7 +79,7 @@ valued_is_same p (Proportional u) =
 
 -- ---- allowed values
 
-in_range : (v : ℤ) → neg_ℤ (pos 1000000000000000) ≤ℤ v → v ≤ℤ pos 1000000000000000 → IsInRange v
+pub in_range : (v : ℤ) → neg_ℤ (pos 1000000000000000) ≤ℤ v → v ≤ℤ pos 1000000000000000 → IsInRange v
 in_range (pos n) low high = omega (arith, ints)
 in_range (negsuc n) low high = omega (arith, ints)
 
@@ -87,7 +87,7 @@ not_negative : (v : ℤ) → pos 0 ≤ℤ v → int_lt v (pos 0) ≡ false
 not_negative (pos n) low = grind (arith, nat_tests)
 not_negative (negsuc n) low = absurd (omega (arith, ints))
 
-bound : (v : ℤ) → pos 0 ≤ℤ v → v ≤ℤ pos 1000000000000000 → IsBound v
+pub bound : (v : ℤ) → pos 0 ≤ℤ v → v ≤ℤ pos 1000000000000000 → IsBound v
 bound v low high =
     record { in_range = in_range v (omega (arith, ints)) high; not_negative = not_negative v low }
 

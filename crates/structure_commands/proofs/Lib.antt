@@ -18,5 +18,6 @@ pub use Rattle.command_files.proofs.edit_scripts as edit_scripts
 pub use Rattle.cert_check.proofs.structure_list as structure_list
 pub use Rattle.cert_check.proofs.flow_program as flow_program
 pub use Rattle.flow_evaluator.proofs.path_laws as path_laws
+pub use Rattle.command_files.proofs.periods as periods
 pub use Rattle.command_files.proofs.studio_words as studio_words
 pub use Rattle.command_files.proofs as command_files

@@ -3,12 +3,9 @@ use Rattle.std.proofs.Common.{◌≡◌, ◌∙◌, ◌<◌, ◌+◌, ℕ, zero,
 use Rattle.std.proofs.Common.{◌++◌, length, get_or, drop, refl, sym, ap, append_assoc, arith}
 use Rattle.std.proofs.Common.{length-append, drop-cons, codes}
 use Rattle.std.specs.Prelude.{flat_map, filter, if◌then◌else◌}
-use Rattle.std.proofs.lemmas.Grind.{flat_map-append}
 use Rattle.cert_check.specs.pns_problem.Printing.{printed}
 use Rattle.command_files.specs.report_rules.Lint.{clean_or}
-
-printed-append : (xs ys : List (List ℕ)) → printed (xs ++ ys) ≡ printed xs ++ printed ys
-printed-append xs ys = flat_map-append (λ line. line ++ 10 ∷ []) xs ys
+use Rattle.cert_check.proofs.pns_problem.Cited.{printed-append}
 
 -- more lines after a text
 pub more_lines : (text more xs ys whole : List ℕ) → more ≡ text ++ xs → text ++ (xs ++ ys) ≡ whole

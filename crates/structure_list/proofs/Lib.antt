@@ -19,5 +19,6 @@ pub use Rattle.pgraph.proofs.integer_laws as integer_laws
 pub use Rattle.pgraph.proofs.problem_rules as problem_rules
 pub use Rattle.pgraph.proofs.pns_rules as pns_rules
 pub use Rattle.pgraph.proofs.flow_rules as flow_rules
+pub use Rattle.pgraph.proofs.unit_sets as unit_sets
 pub use Rattle.pgraph.proofs.pns_problem as pns_problem
 pub use Rattle.pgraph.proofs as pgraph

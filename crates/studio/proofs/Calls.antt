@@ -151,7 +151,7 @@ accepts c name text status said ends (inr h) =
     )
 
 -- the same answers if another shelf has the file
-moved : (work : Problem → Status → List (List ℕ) → Type 0) (held later : List ℕ → Told)
+pub moved : (work : Problem → Status → List (List ℕ) → Type 0) (held later : List ℕ → Told)
     (file bytes : List ℕ) (s : Status) (lines : List (List ℕ)) → held file ≡ Some (Some bytes)
     → later file ≡ Some (Some bytes) → OnFile work held file s lines
     → OnFile work later file s lines

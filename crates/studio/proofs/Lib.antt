@@ -22,4 +22,5 @@ pub use Rattle.structure_commands.proofs.structure_list as structure_list
 pub use Rattle.structure_commands.proofs.flow_program as flow_program
 pub use Rattle.structure_commands.proofs.path_laws as path_laws
 pub use Rattle.part_commands.proofs.tree_parts as tree_parts
+pub use Rattle.structure_commands.proofs.periods as periods
 pub use Rattle.structure_commands.proofs.command_files as command_files

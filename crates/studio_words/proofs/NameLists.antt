@@ -11,9 +11,9 @@ use Rattle.std.specs.List.{after_first}
 use Rattle.std.proofs.lemmas.List.Splits.{slice_split-cons_no, slice_split_first}
 use Rattle.std.specs.Str.{bytes_eq, byte}
 use Rattle.studio_rules.specs.problem_rules.Names.{is_name, is_among, has_double}
+use Rattle.studio_rules.proofs.problem_rules.Cited.{bytes_eq-sym}
 use Rattle.studio_rules.specs.Command.{unit_names_of}
 use Rattle.studio_words.specs.Gathering.{gathered}
-use Rattle.pns_problem.proofs.Cited.{bytes_eq-sym}
 
 or_true : (a : Bool) → (a || true) ≡ true
 or_true true = refl
@@ -22,12 +22,6 @@ or_true false = refl
 or_assoc : (a b c : Bool) → ((a || b) || c) ≡ (a || (b || c))
 or_assoc true b c = refl
 or_assoc false b c = refl
-
-or_swap : (a b c : Bool) → (a || (b || c)) ≡ (b || (a || c))
-or_swap true true c = refl
-or_swap true false c = refl
-or_swap false true c = refl
-or_swap false false c = refl
 
 or_false : (a : Bool) → (a || false) ≡ a
 or_false true = refl

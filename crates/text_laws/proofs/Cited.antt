@@ -8,5 +8,6 @@ pub use Rattle.text_laws.proofs.Names.{bytes_differ, bytes_same}
 pub use Rattle.text_laws.proofs.PrintedAmount.{after_none, all_to, amounts_read_back, before_none}
 pub use Rattle.text_laws.proofs.PrintedAmount.{count_all, count_none}
 pub use Rattle.text_laws.proofs.PrintedLines.{plain_kept, split_lines, without_last}
+pub use Rattle.text_laws.proofs.ReadFields.{zero_bound}
 pub use Rattle.text_laws.proofs.Words.{IsWord, amount_word, digit_continues, is_plus, name_word}
 pub use Rattle.text_laws.proofs.Words.{terms_split, word_no_arrow, word_no_plus}

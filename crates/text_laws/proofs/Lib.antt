@@ -19,7 +19,7 @@ pub mod PrintedLines
 mod PrintedSides
 mod RatesLines
 mod ReadCounts
-mod ReadFields
+pub mod ReadFields
 mod ReadIsWellFormed
 mod ReadItems
 pub mod Words

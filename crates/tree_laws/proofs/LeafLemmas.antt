@@ -1,11 +1,11 @@
 -- What a leaf says of each structure of its node.
-use Rattle.std.proofs.Common.{◌≡◌, ◌⊎◌, ℕ, ℤ, pos, ◌*ℤ◌, ◌≤ℤ◌, ◌<ℤ◌, Bool, true, List, [], ◌∷◌}
-use Rattle.std.proofs.Common.{Option, Some, None, refl, subst, inl, inr, arith}
+use Rattle.std.proofs.Common.{◌≡◌, ◌⊎◌, ℕ, ℤ, pos, ◌*ℤ◌, ◌≤ℤ◌, ◌<ℤ◌, Bool, true, List, Option, Some}
+use Rattle.std.proofs.Common.{None, refl, subst, inl, inr, arith}
 use Rattle.std.proofs.lemmas.Int.{ints}
 use Rattle.tree_rules.proofs.integer_laws.Cited.{ring_z, mul-le_left, cancel_le}
 use Rattle.tree_rules.specs.problem_rules.Problem.{Problem}
 use Rattle.tree_rules.specs.problem_rules.Validity.{IsValid}
-use Rattle.tree_rules.specs.pns_rules.Shape.{Shape, shape_of}
+use Rattle.tree_rules.specs.pns_rules.Shape.{shape_of}
 use Rattle.tree_rules.specs.pns_rules.Structure.{InFamily}
 use Rattle.tree_rules.specs.pns_rules.Nodes.{Node}
 use Rattle.tree_rules.proofs.pns_rules.Cited.{proper_if_valid, dead_are_empty, clashes_are_empty}
@@ -15,17 +15,15 @@ use Rattle.tree_rules.specs.flow_rules.Relaxed.{bound}
 use Rattle.tree_rules.proofs.flow_rules.Cited.{weak_duality_holds, refutation_holds, charge_duality}
 use Rattle.tree_rules.proofs.flow_rules.Cited.{charge_refutes, own_facts_hold, flows_fit}
 use Rattle.tree_rules.specs.flow_rules.ChargeFacts.{own_facts}
-use Rattle.tree_rules.specs.flow_rules.Cover.{Cover}
-use Rattle.tree_rules.specs.flow_rules.ChargeLeaf.{Handed, IsScale, CoversPass, charge_of}
-use Rattle.tree_rules.specs.flow_rules.ChargeLeaf.{ChargeReaches}
+use Rattle.tree_rules.specs.flow_rules.ChargeLeaf.{Handed, CoversPass, charge_of, ChargeReaches}
 use Rattle.tree_rules.specs.flow_rules.ChargeLeaf as charges
-use Rattle.tree_rules.specs.flow_rules.ChargeLaws.{AreCovers}
 use Rattle.tree_rules.specs.Claim.{network, Claim, infeasible, unknown, CostOver, IsAtLeast}
 use Rattle.tree_rules.specs.Claim.{claimed_cost, ClaimPasses}
 use Rattle.tree_rules.specs.Leaf.{Leaf, dead, clash, refuted, bounded, charged, untried, Scaled}
 use Rattle.tree_rules.specs.Leaf.{multiplier, IsBounded, IsCharged, IsLow, LeafPasses}
 use Rattle.tree_rules.specs.Costs.{CostsEnough}
 use Rattle.tree_rules.specs.Lower.{bound_over}
+use Rattle.tree_rules.proofs.Cited.{are_covers, not_negative}
 
 -- n / e is at most b / d, and b / d at most c / z
 pub chain : (n e d b z c : ℤ) → pos 1 ≤ℤ d → pos 1 ≤ℤ z → pos 0 ≤ℤ e → (n *ℤ d) ≤ℤ (b *ℤ e)
@@ -50,15 +48,6 @@ pub scale_of : (partial : Bool) (p : Problem) (claim : Claim) → ClaimPasses pa
 scale_of partial p (network w) c = let h : pos 1 ≤ℤ w.d = c.flows.positive in omega (arith, ints)
 scale_of partial p infeasible c = tt
 scale_of partial p unknown c = tt
-
-are_covers : (g : Shape) (n : Node) (covers : List Cover) → CoversPass g n covers
-    → AreCovers g n covers
-are_covers g n [] h = tt
-are_covers g n (c ∷ cs) h = ((h.0.weight, h.0.covers), are_covers g n cs h.1)
-
-not_negative : {C : Type 0} {d : ℤ} → IsScale C d → pos 0 ≤ℤ d
-not_negative (inl e) = omega (arith, ints)
-not_negative (inr h) = let some = h.0 in omega (arith, ints)
 
 -- b / d is at most c / z
 over : (b d z c : ℤ) → (z *ℤ b) ≤ℤ (d *ℤ c) → (b *ℤ z) ≤ℤ (c *ℤ d)

@@ -39,7 +39,7 @@ le_true x y h = true_from_T (le_z x y) h.le
 true_le : (x y : ℤ) → int_le x y ≡ true → x ≤ℤ y
 true_le x y h = le_z_yes (T_from_true (le_z x y) h)
 
-false_lt : (x y : ℤ) → int_le x y ≡ false → y <ℤ x
+pub false_lt : (x y : ℤ) → int_le x y ≡ false → y <ℤ x
 false_lt x y h =
     by_lt_z y x (λ lt. lt) (λ le. absurd (let t : true ≡ false = sym (le_true x y le) ∙ h in cc))
 

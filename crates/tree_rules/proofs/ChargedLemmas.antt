@@ -41,12 +41,12 @@ too_cheap m k x d c e some_k some_d some_e reach dual below =
     crossed : (p q r s t v : ℤ) → p <ℤ q → r ≤ℤ s → t ≤ℤ v → p ≡ s → v ≡ r → q ≡ t → ⊥
     crossed p q r s t v a b f g h i = omega (arith, ints)
 
-are_covers : (g : Shape) (n : Node) (covers : List Cover) → CoversPass g n covers
+pub are_covers : (g : Shape) (n : Node) (covers : List Cover) → CoversPass g n covers
     → AreCovers g n covers
 are_covers g n [] h = tt
 are_covers g n (c ∷ cs) h = ((h.0.weight, h.0.covers), are_covers g n cs h.1)
 
-not_negative : {C : Type 0} {d : ℤ} → IsScale C d → pos 0 ≤ℤ d
+pub not_negative : {C : Type 0} {d : ℤ} → IsScale C d → pos 0 ≤ℤ d
 not_negative (inl e) = omega (arith, ints)
 not_negative (inr h) = let some = h.0 in omega (arith, ints)
 

@@ -7,9 +7,8 @@ use Rattle.std.proofs.lemmas.Bool.{cases_order}
 use Rattle.std.proofs.lemmas.Int.{ints}
 use Rattle.flow_rules.specs.integer_laws.Total.{total}
 use Rattle.flow_rules.proofs.integer_laws.Cited.{le_trans_z, left-le_int_max, right-le_int_max}
-use Rattle.flow_rules.proofs.integer_laws.Cited.{total-le}
-use Rattle.flow_rules.specs.number_sets.Sets.{IsWithin, listed}
-use Rattle.flow_rules.proofs.Cited.{All-listed, total-sets, within_larger}
+use Rattle.flow_rules.specs.number_sets.Sets.{listed}
+use Rattle.flow_rules.proofs.Cited.{All-listed, total_nonneg}
 use Rattle.tree_rules.specs.Trim.{greatest}
 
 -- ---- what holds of each number of a set
@@ -48,11 +47,6 @@ listed-each P (suc n) t h i l e =
 
 -- ---- sums of terms that are not below 0
 
-total_nonneg : {X : Type 0} (f : X → ℤ) (xs : List X) → AllByRecursion (λ x. pos 0 ≤ℤ f x) xs
-    → pos 0 ≤ℤ total f xs
-total_nonneg f [] h = omega (arith, ints)
-total_nonneg f (x ∷ xs) h = omega (arith, ints, h.0, total_nonneg f xs h.1)
-
 total-each : {X : Type 0} (f : X → ℤ) (xs : List X) → AllByRecursion (λ x. pos 0 ≤ℤ f x) xs
     → AllByRecursion (λ x. f x ≤ℤ total f xs) xs
 total-each f [] h = tt
@@ -75,23 +69,6 @@ pub term_under : (g : ℕ → ℤ) (n : ℕ) (s : ℕ → Bool)
 term_under g n s nonneg u l e =
     listed-each (λ i. g i ≤ℤ total g (listed n s)) n s
     (total-each g (listed n s) (All-listed (λ i. pos 0 ≤ℤ g i) n s nonneg)) u l e
-
--- a sum over a set is at most the same sum over a larger set
-pub total-larger : (g : ℕ → ℤ) (s t : ℕ → Bool) (n : ℕ) → IsWithin s t
-    → ((i : ℕ) → i < n → pos 0 ≤ℤ g i)
-    → total g (listed n s) ≤ℤ total g (listed n t)
-total-larger g s t n sub nonneg =
-    let same : total (λ i. cond (s i) (g i) (pos 0)) (listed n t) ≡ total g (listed n s)
-    = total-sets (λ i. cond (s i) (g i) (pos 0)) g t s n
-    (λ i l. within_larger (t i) (s i) (g i) (sub i)) in
-    let less = total-le (λ i. cond (s i) (g i) (pos 0)) g (listed n t)
-    (All-listed (λ i. cond (s i) (g i) (pos 0) ≤ℤ g i) n t
-    (λ i l h. at (s i) (g i) (nonneg i l))) in
-    rw same at less
-  where
-    at : (b : Bool) (x : ℤ) → pos 0 ≤ℤ x → cond b x (pos 0) ≤ℤ x
-    at true x p = omega (arith, ints)
-    at false x p = p
 
 -- ---- the greatest
 

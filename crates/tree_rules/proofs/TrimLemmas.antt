@@ -7,11 +7,9 @@ use Rattle.std.proofs.lemmas.Int.{ints, clamps, by_lt_z}
 use Rattle.std.proofs.lemmas.Bool.{true_from_ne_false}
 use Rattle.flow_rules.specs.integer_laws.Total.{total}
 use Rattle.flow_rules.proofs.integer_laws.Cited.{ring_z, sign_cases, mul_nonneg, mul-le_left}
-use Rattle.flow_rules.proofs.integer_laws.Cited.{mul-le_right}
-use Rattle.flow_rules.proofs.integer_laws.Cited.{mul-le_left_neg, le_trans_z, le-int_min}
-use Rattle.flow_rules.proofs.integer_laws.Cited.{left-le_int_max}
-use Rattle.flow_rules.proofs.integer_laws.Cited.{right-le_int_max, total-le, total-add}
-use Rattle.flow_rules.proofs.integer_laws.Cited.{total-mul_right}
+use Rattle.flow_rules.proofs.integer_laws.Cited.{mul-le_right, mul-le_left_neg, le_trans_z}
+use Rattle.flow_rules.proofs.integer_laws.Cited.{left-le_int_max, right-le_int_max, total-le}
+use Rattle.flow_rules.proofs.integer_laws.Cited.{total-add, total-mul_right}
 use Rattle.flow_rules.specs.number_sets.Sets.{IsWithin}
 use Rattle.flow_rules.specs.problem_rules.Problem.{Problem}
 use Rattle.flow_rules.specs.pns_rules.Structure.{mats}
@@ -21,7 +19,8 @@ use Rattle.flow_rules.specs.Net.{high_end}
 use Rattle.flow_rules.specs.Flows.{IsFlows, balance, cost}
 use Rattle.flow_rules.specs.Relaxed.{stays}
 use Rattle.flow_rules.proofs.Cited.{All-listed, IsNet, rounded_up_most, use_rate_nonneg}
-use Rattle.flow_rules.proofs.Cited.{users_most_nonneg, use_of_under}
+use Rattle.flow_rules.proofs.Cited.{users_most_nonneg, use_of_under, at_most_nonneg, most_nonneg}
+use Rattle.flow_rules.proofs.Cited.{total-larger}
 use Rattle.flow_rules.specs.ChargeFacts.{Demand, Facts, AreFacts, Fit, use_rate, use_of}
 use Rattle.flow_rules.specs.Charge.{users_most, at_most}
 use Rattle.tree_rules.specs.Claim.{CostOver}
@@ -31,7 +30,7 @@ use Rattle.tree_rules.specs.Head.{with_most}
 use Rattle.tree_rules.specs.Keeps.{IsBelow, Undercuts, MayFit}
 use Rattle.tree_rules.specs.HeadLaws.{IsCost}
 use Rattle.tree_rules.proofs.FactLemmas.{of_one}
-use Rattle.tree_rules.proofs.SumLemmas.{listed-each, term_under, total-larger, greatest_first}
+use Rattle.tree_rules.proofs.SumLemmas.{listed-each, term_under, greatest_first}
 use Rattle.tree_rules.proofs.SumLemmas.{greatest_each}
 
 -- the sizes with that of unit u put down to w
@@ -98,17 +97,6 @@ sizes_nonneg : (net : Net) (f : Facts) (s : ℕ → Bool) (z : ℕ → ℤ) (d :
 sizes_nonneg net f s z d facts fit p i l e =
     le_trans_z (pos 0) (f.least i *ℤ d) (z i) (mul_nonneg (f.least i) d (facts.not_negative i l) p)
     (fit.at_least i l e)
-
-most_nonneg : (net : Net) (f : Facts) → AreFacts net f → (i : ℕ) → i < net.graph.units
-    → pos 0 ≤ℤ f.most i
-most_nonneg net f facts i l =
-    le_trans_z (pos 0) (f.least i) (f.most i) (facts.not_negative i l) (facts.ordered i l)
-
-at_most_nonneg : (v : Option ℤ) (most : ℤ) → IfSome v (λ x. pos 0 ≤ℤ x) → pos 0 ≤ℤ most
-    → pos 0 ≤ℤ at_most v most
-at_most_nonneg None most h p = p
-at_most_nonneg (Some v) most h p =
-    le-int_min (pos 0) (million *ℤ v) most (mul_nonneg million v (omega (arith, ints)) h) p
 
 low_end_nonneg : (r : Bool) (lower upper : ℤ) → r ≡ false → pos 0 ≤ℤ lower
     → pos 0 ≤ℤ (million *ℤ cond r (neg_ℤ upper) lower)

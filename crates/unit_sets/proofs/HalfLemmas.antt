@@ -34,7 +34,7 @@ has-far (x ∷ xs) u b =
     or_from (x == u + 128) (has xs (u + 128)) (ne_eqb x (u + 128) (λ e. let c = b.0 in omega arith))
     (has-far xs u b.1)
 
-or_false : (b : Bool) → (b || false) ≡ b
+pub or_false : (b : Bool) → (b || false) ≡ b
 or_false true = refl
 or_false false = refl
 

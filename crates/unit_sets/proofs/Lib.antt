@@ -1,3 +1,4 @@
+pub mod Cited
 pub mod HalfLemmas
 pub mod MaskLemmas
 pub mod NextLemmas

@@ -1,6 +1,6 @@
 use Rattle.std.proofs.Common.{sym, ◌∙◌}
+use Rattle.node_evaluation.proofs.link_lists.Cited.{following_has}
 use Rattle.abb_search.proofs.ReadyLemmas.{first_has}
-use Rattle.abb_search.proofs.WatchLemmas.{following_has}
 use Rattle.abb_search.proofs.watching.open_leaves.Goals as goal
 
 pub leaves-init : goal.leaves-init

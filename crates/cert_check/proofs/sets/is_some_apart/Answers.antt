@@ -1,6 +1,7 @@
 use Rattle.std.proofs.Common.{◌≡◌, []}
 use Rattle.std.proofs.lemmas.Bool.{both_ways}
-use Rattle.cert_check.proofs.SetLemmas.{some_number, apart_is}
+use Rattle.charges.proofs.pgraph.Cited.{some_number}
+use Rattle.cert_check.proofs.SetLemmas.{apart_is}
 use Rattle.cert_check.proofs.sets.is_some_apart.Goals as goal
 
 pub returns-then-not-is_empty : goal.returns-then-not-is_empty

@@ -3,7 +3,7 @@ use Rattle.std.proofs.Common.{get_or, length}
 use Rattle.std.specs.Prelude.{unsigned_abs}
 use Rattle.std.specs.Int.{w128}
 use Rattle.std.proofs.lemmas.Int.{to_z-of_z}
-use Rattle.dual_simplex.proofs.RowSizeLemmas.{high_small}
+use Rattle.path_laws.proofs.Cited.{high_small}
 use Rattle.dual_simplex.proofs.entries.ceiling.Goals as goal
 
 pub returns-clause-small : goal.returns-clause-small

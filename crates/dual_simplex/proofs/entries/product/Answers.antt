@@ -3,7 +3,7 @@ use Rattle.std.proofs.Common.{refl}
 use Rattle.std.specs.Prelude.{unsigned_abs}
 use Rattle.std.specs.Int.{w128}
 use Rattle.std.proofs.lemmas.Int.{to_z-of_z}
-use Rattle.dual_simplex.proofs.RowSizeLemmas.{fits_small, size_mul}
+use Rattle.flow_program.proofs.Cited.{fits_small, size_mul}
 use Rattle.dual_simplex.proofs.entries.product.Goals as goal
 
 pub returns-clause-small : goal.returns-clause-small

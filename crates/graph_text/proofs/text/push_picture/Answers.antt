@@ -7,11 +7,12 @@ use Rattle.report_amounts.specs.pns_problem.Printing.{printed}
 use Rattle.report_amounts.specs.pns_rules.Shape.{Shape, shape_of}
 use Rattle.report_amounts.specs.pns_rules.Structure.{mats}
 use Rattle.report_amounts.specs.flow_rules.Net.{net_of, materials_of}
-use Rattle.report_amounts.proofs.Cited.{materials_are, mats_known}
+use Rattle.report_amounts.proofs.Cited.{materials_are}
 use Rattle.report_amounts.specs.problem_rules.Problem.{Problem}
 use Rattle.report_amounts.specs.report_rules.Graph.{head_lines, total_lines, list_lines}
 use Rattle.report_amounts.specs.report_rules.Graph.{material_line, unit_lines}
 use Rattle.report_amounts.specs.report_rules.Graph.{last_lines}
+use Rattle.report_amounts.proofs.flow_program.Cited.{mats_known}
 use Rattle.graph_text.specs.Kept.{picture_of}
 use Rattle.graph_text.proofs.Lines.{parts_printed}
 use Rattle.graph_text.proofs.text.push_picture.Goals as goal

@@ -1,8 +1,7 @@
 use Rattle.std.proofs.Common.{◌≡◌, ◌∙◌, ◌++◌, sym, ap, ℕ, List, string_bytes}
 use Rattle.report_amounts.specs.pns_problem.Printing.{printed}
-use Rattle.report_amounts.proofs.pns_problem.Cited.{after}
+use Rattle.report_amounts.proofs.pns_problem.Cited.{after, printed-append}
 use Rattle.report_amounts.specs.report_rules.Graph.{legend, rate_legend}
-use Rattle.graph_text.proofs.Lines.{printed-append}
 use Rattle.graph_text.proofs.text.push_rate_legend.Goals as goal
 
 pub returns : goal.returns

@@ -3,7 +3,8 @@ use Rattle.structure_list.specs.number_sets.Sets.{has}
 use Rattle.structure_list.specs.pns_rules.Structure.{is_needed}
 use Rattle.structure_list.specs.pgraph.Tables.{shape}
 use Rattle.structure_list.specs.pgraph.View.{node_of}
-use Rattle.node_evaluation.proofs.BranchChoiceLemmas.{within_first, within_rest, needed_known}
+use Rattle.neutral_extension.proofs.Cited.{needed_known}
+use Rattle.node_evaluation.proofs.BranchChoiceLemmas.{within_first, within_rest}
 use Rattle.node_evaluation.proofs.choice.least_with_three.Goals as goal
 
 pub loop-x-init : goal.loop-x-init

@@ -1,8 +1,8 @@
 use Rattle.std.proofs.Common.{◌≡◌, Some, None, sym, ◌∙◌, arith}
 use Rattle.link_lists.specs.Lists.{row, following}
+use Rattle.link_lists.proofs.Cited.{following_has}
 use Rattle.node_pool.specs.Order.{is_at_least}
 use Rattle.node_pool.proofs.Places.{found_on, found_none, place_following, place_below}
-use Rattle.node_pool.proofs.Places.{following_has}
 use Rattle.node_pool.proofs.Order.{stays_at_least}
 use Rattle.node_pool.proofs.leaves.on_to_first.Goals as goal
 

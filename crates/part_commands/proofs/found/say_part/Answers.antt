@@ -6,8 +6,8 @@ use Rattle.network_commands.specs.tree_text_rules.PartRead.{PartReads}
 use Rattle.network_commands.specs.tree_text_rules.PartSpelling.{part_text_lines}
 use Rattle.network_commands.specs.studio_rules.Printed.{OneAnswer}
 use Rattle.network_commands.proofs.command_files.Cited.{Tells-map, Ends-from, spelled_text}
+use Rattle.searches.proofs.Cited.{is_printing}
 use Rattle.part_commands.specs.Found.{TextSays}
-use Rattle.part_commands.proofs.Parts.{is_printing}
 use Rattle.part_commands.proofs.found.say_part.Goals as goal
 
 pub say_searched-requires-clause-printing : goal.say_searched-requires-clause-printing

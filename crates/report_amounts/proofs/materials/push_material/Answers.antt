@@ -12,7 +12,7 @@ use Rattle.report_rules.specs.Table.{IsQuotient}
 use Rattle.report_amounts.specs.Written.{HasWritten}
 use Rattle.report_amounts.proofs.RowLemmas.{on_ok}
 use Rattle.report_rules.specs.problem_rules.Problem.{Material, material_at}
-use Rattle.report_amounts.proofs.ReadLemmas.{material_read}
+use Rattle.flow_evaluator.proofs.flow_program.Cited.{material_read}
 use Rattle.report_amounts.proofs.materials.push_material.Goals as goal
 
 pub returns : goal.returns

@@ -7,7 +7,7 @@ use Rattle.tree_text.specs.pns_rules.Ends.{IsSound}
 use Rattle.tree_text.specs.pgraph.View.{node_of}
 use Rattle.tree_text.specs.tree_rules.Accepted.{first_node}
 use Rattle.headed_search.specs.abb_search.Found.{IsFound}
-use Rattle.searches.proofs.FoundTexts.{first_is_sound}
+use Rattle.headed_search.proofs.rank_search.Cited.{first_is_sound}
 use Rattle.searches.proofs.search.search_all.Goals as goal
 
 pub search_watched-requires-clause-sound : goal.search_watched-requires-clause-sound

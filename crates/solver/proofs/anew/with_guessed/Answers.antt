@@ -1,6 +1,6 @@
 use Rattle.flow_evaluator.specs.pgraph.View.{node_of}
+use Rattle.flow_evaluator.proofs.search_tree.Cited.{fallen_same}
 use Rattle.flow_evaluator.specs.node_evaluation.Looks.{cost_of}
-use Rattle.rank_search.proofs.abb_search.Cited.{fallen_same}
 use Rattle.solver.proofs.AnewLemmas.{hand_passes, cheaper_passes}
 use Rattle.solver.proofs.anew.with_guessed.Goals as goal
 

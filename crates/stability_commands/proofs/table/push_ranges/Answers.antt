@@ -1,10 +1,10 @@
 use Rattle.std.proofs.Common.{◌≡◌, ◌++◌, ◌∙◌, ap, sym, append_assoc, ℕ, List, string_bytes}
 use Rattle.stability.specs.pns_problem.Printing.{printed}
 use Rattle.stability.specs.report_rules.Aligned.{table_lines}
-use Rattle.network_commands.proofs.report_tables.Cited.{printed-append}
 use Rattle.network_commands.specs.studio_rules.Lines.{text_of}
 use Rattle.network_commands.specs.studio_rules.StableTable.{range_sorts, range_heading, range_table}
 use Rattle.network_commands.specs.studio_rules.StableTable.{open_lines}
+use Rattle.stability.proofs.pns_problem.Cited.{printed-append}
 use Rattle.stability_commands.proofs.table.push_ranges.Goals as goal
 
 pub returns : goal.returns

@@ -1,7 +1,7 @@
 use Rattle.std.proofs.Common.{◌≡◌, true, sym, ◌∙◌, subst}
 use Rattle.link_lists.specs.Lists.{row, has}
+use Rattle.link_lists.proofs.Cited.{first_has}
 use Rattle.node_pool.specs.Order.{OpenLeaves}
-use Rattle.node_pool.proofs.Places.{first_has}
 use Rattle.node_pool.proofs.leaves.Leaves.first_from_front.Goals as goal
 
 pub is_at_least-requires : goal.is_at_least-requires
