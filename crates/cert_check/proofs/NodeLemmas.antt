@@ -1,10 +1,11 @@
 -- The nodes that steps and options leave.
-use Rattle.std.proofs.Common.{◌≡◌, ℕ, suc, zero, ◌<◌, ◌≤◌, ◌==◌, Bool, not, ◌&&◌, ◌||◌, List, []}
-use Rattle.std.proofs.Common.{◌∷◌, drop, map, length, get_or, refl, sym, ap, ◌∙◌, subst, inl, inr}
+use Rattle.std.proofs.Common.{◌≡◌, ℕ, suc, zero, ◌<◌, ◌≤◌, ◌==◌, not, ◌&&◌, ◌||◌, List, [], ◌∷◌}
+use Rattle.std.proofs.Common.{drop, map, length, get_or, refl, sym, ap, ◌∙◌, subst, inl, inr}
 use Rattle.std.proofs.Common.{eqb-true, arith}
 use Rattle.std.proofs.lemmas.Bool.{or_cases}
 use Rattle.tree_text_rules.specs.number_sets.Sets.{has, union, minus}
 use Rattle.tree_text_rules.proofs.number_sets.Cited.{has-union, has-minus}
+use Rattle.tree_laws.proofs.number_sets.Cited.{same_at}
 use Rattle.tree_text_rules.specs.pns_rules.Shape.{Shape}
 use Rattle.tree_text_rules.specs.pns_rules.Nodes as rules
 use Rattle.tree_text_rules.specs.pns_rules.Nodes.{Step, raw, rival, starve, loose, sole, IsPossible}
@@ -13,18 +14,6 @@ use Rattle.tree_text_rules.specs.tree_rules.Tree.{StepsPass, after_all}
 use Rattle.charges.specs.unit_sets.declared.node.Node.{Node}
 use Rattle.charges.specs.pgraph.View.{node_of}
 use Rattle.cert_check.specs.Known.{KnowsInside}
-use Rattle.cert_check.proofs.SetLemmas.{same_at}
-
--- a node with more units out, or in
-pub node_out : (i o r : List ℕ) (more : ℕ → Bool) → ((v : ℕ) → has r v ≡ (more v || has o v))
-    → node_of (record { inside = i; outside = r })
-    ≡ record { inside = has i; outside = λ v. more v || has o v }
-node_out i o r more e = λ k. record { inside = has i; outside = λ v. e v k }
-
-pub node_in : (i o r : List ℕ) (more : ℕ → Bool) → ((v : ℕ) → has r v ≡ (more v || has i v))
-    → node_of (record { inside = r; outside = o })
-    ≡ record { inside = λ v. more v || has i v; outside = has o }
-node_in i o r more e = λ k. record { inside = λ v. e v k; outside = has o }
 
 pub child_is : (g : Shape) (n : Node) (x : ℕ) (option producers rest inside outside : List ℕ)
     → inside ≡ union option n.inside → has producers ≡ (λ u. g.makes u x)

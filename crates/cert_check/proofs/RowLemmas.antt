@@ -5,13 +5,13 @@ use Rattle.std.proofs.lemmas.Bool.{or_cases, or_left, or_right, and_from, and_pa
 use Rattle.tree_text_rules.specs.number_sets.Sets.{has, listed, IsRising}
 use Rattle.tree_text_rules.proofs.number_sets.Cited.{has-listed, IsRising-listed, same_sets}
 use Rattle.tree_text_rules.proofs.number_sets.Cited.{same_tests}
+use Rattle.tree_laws.proofs.number_sets.Cited.{same_at}
 use Rattle.tree_text_rules.specs.pns_rules.Shape.{Shape, IsProper}
 use Rattle.tree_text_rules.specs.pns_rules.Structure.{is_made, is_used, mats}
 use Rattle.tree_text_rules.specs.pns_rules.Nodes.{Node}
 use Rattle.tree_text_rules.proofs.pns_rules.Cited.{is_made-from, is_made-some, is_used-from}
 use Rattle.tree_text_rules.proofs.pns_rules.Cited.{is_used-some}
 use Rattle.tree_text_rules.specs.flow_rules.Relaxed.{stays}
-use Rattle.cert_check.proofs.SetLemmas.{same_at}
 
 mats_known : (g : Shape) (proper : IsProper g) (s : ℕ → Bool) (x : ℕ) → mats g s x ≡ true
     → x < g.materials

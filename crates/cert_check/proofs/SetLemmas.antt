@@ -6,12 +6,10 @@ use Rattle.std.proofs.lemmas.Bool.{or_left, or_cases, and_parts, and_from, both_
 use Rattle.std.proofs.lemmas.Bool.{false_from_ne_true}
 use Rattle.tree_text_rules.specs.number_sets.Sets.{has, meet, minus, Avoids, IsRising}
 use Rattle.tree_text_rules.proofs.number_sets.Cited.{has-meet, has-minus, same_sets, same_tests}
+use Rattle.tree_laws.proofs.number_sets.Cited.{same_at}
 use Rattle.tree_text_rules.specs.pns_rules.Shape.{Shape}
 use Rattle.tree_text_rules.specs.pns_rules.Nodes.{Node, is_free}
 use Rattle.charges.proofs.pgraph.Cited.{some_number}
-
-pub same_at : (s t : ℕ → Bool) (u : ℕ) → s ≡ t → s u ≡ t u
-same_at s t u e = ap (λ (f : ℕ → Bool). f u) e
 
 pub none_there : (xs : List ℕ) (u : ℕ) → xs ≡ [] → has xs u ≡ true → ⊥
 none_there xs u e h = both_ways (has xs u) (ap (λ k. has k u) e) h

@@ -5,6 +5,7 @@ use Rattle.std.proofs.lemmas.Bool.{or_cases, or_left, or_right, and_parts, both_
 use Rattle.std.proofs.lemmas.Bool.{false_from_ne_true, true_from_ne_false}
 use Rattle.tree_text_rules.specs.number_sets.Sets.{has, minus, union, IsWithin, Avoids}
 use Rattle.tree_text_rules.proofs.number_sets.Cited.{has-union}
+use Rattle.tree_laws.proofs.number_sets.Cited.{same_at}
 use Rattle.tree_text_rules.specs.pns_rules.Shape.{Shape, IsProper}
 use Rattle.tree_text_rules.specs.pns_rules.Structure.{is_made, is_used, is_needed}
 use Rattle.tree_text_rules.specs.pns_rules.Nodes.{Node, raw, starve, loose, sole, IsPossible}
@@ -13,7 +14,7 @@ use Rattle.tree_text_rules.specs.pns_rules.Ends.{IsDead}
 use Rattle.tree_text_rules.proofs.pns_rules.Cited.{is_made-from, is_made-some, is_used-from}
 use Rattle.tree_text_rules.proofs.pns_rules.Cited.{is_used-some}
 use Rattle.charges.proofs.pgraph.Cited.{some_number}
-use Rattle.cert_check.proofs.SetLemmas.{same_at, none_there, is_none, left_is}
+use Rattle.cert_check.proofs.SetLemmas.{none_there, is_none, left_is}
 
 module _ (g : Shape) (o : ℕ → Bool) (x : ℕ) where
   pub needed_known : IsProper g → is_needed g o x ≡ true → x < g.materials

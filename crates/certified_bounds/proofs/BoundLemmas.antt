@@ -1,8 +1,7 @@
 -- The answers for a node, from what the checks say.
-use Rattle.std.proofs.Common.{◌≡◌, ℕ, Option, Some, Result, Ok, Err, IfOk, IfSome, List, [], ◌∷◌}
-use Rattle.std.proofs.Common.{sym, ◌∙◌, arith, pos, ℤ, ◌*ℤ◌, ◌≤ℤ◌}
+use Rattle.std.proofs.Common.{◌≡◌, ℕ, Option, Some, Result, Ok, Err, IfOk, IfSome, List, sym, ◌∙◌}
+use Rattle.std.proofs.Common.{arith, pos, ℤ, ◌*ℤ◌, ◌≤ℤ◌}
 use Rattle.std.proofs.lemmas.Int.{ints}
-use Rattle.scaled_flows.specs.integer_laws.Range.{InRange}
 use Rattle.scaled_flows.specs.problem_rules.Problem.{Problem}
 use Rattle.scaled_flows.specs.pns_rules.Nodes.{Node}
 use Rattle.scaled_flows.specs.exact_numbers.declared.number.Mixed.{Mixed}
@@ -10,7 +9,6 @@ use Rattle.scaled_flows.specs.exact_numbers.Number.{numerator, denominator}
 use Rattle.scaled_flows.specs.flow_rules.Net.{net_of}
 use Rattle.scaled_flows.specs.flow_rules.Relaxed.{IsRelaxed, relaxed_cost, bound}
 use Rattle.scaled_flows.specs.flow_rules.Laws.{RelaxedDuality}
-use Rattle.scaled_flows.specs.flow_rules.Steps.{AreInRange, last_from}
 use Rattle.scaled_flows.specs.tree_rules.Claim.{Network, CostOver}
 use Rattle.scaled_flows.specs.tree_rules.Leaf.{IsBounded, IsOneEach, IsFormed, multiplier}
 use Rattle.scaled_flows.specs.LeastCost.{IsLeastCost}
@@ -22,12 +20,6 @@ pub found_weaker : {T E : Type 0} (r : Result (Option T) E) (P Q : T → Type 0)
     → ((x : T) → P x → Q x) → IfOk r (λ o. IfSome o P) → IfOk r (λ o. IfSome o Q)
 found_weaker (Ok o) P Q f h = some_weaker o P Q f h
 found_weaker (Err e) P Q f h = tt
-
--- the last of numbers in range is in range
-pub last_in_range : (before : ℤ) (zs : List ℤ) → InRange before → AreInRange zs
-    → InRange (last_from before zs)
-last_in_range before [] h k = h
-last_in_range before (z ∷ zs) h k = last_in_range z zs k.0 k.1
 
 -- the bound of the multipliers over their scale
 pub bounded_is : (p : Problem) (n : Node) (scale : ℤ) (ys : List ℤ) (b : ℤ) (low : Mixed)

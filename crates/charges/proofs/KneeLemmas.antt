@@ -1,14 +1,13 @@
 -- The first of the least, and the order of knees.
 use Rattle.std.proofs.Common.{◌≡◌, ℕ, ◌+◌, Bool, true, false, cond, refl, sym, ap, ◌∙◌, subst}
 use Rattle.std.proofs.Common.{arith, ltb-true, pos, negsuc, ℤ, ◌≤ℤ◌, ◌<ℤ◌, List, [], ◌∷◌, length}
-use Rattle.std.proofs.Common.{map, inl, inr, ◌==◌, T}
+use Rattle.std.proofs.Common.{map, inl, inr, ◌==◌}
 use Rattle.std.specs.Prelude.{int_lt, int_le, not}
-use Rattle.std.specs.Int.Signed.{le_z, le_z_yes}
-use Rattle.std.proofs.lemmas.Float.{T_from_true}
 use Rattle.std.proofs.lemmas.Int.{ints}
 use Rattle.std.proofs.lemmas.Bool.{ne_eqb}
 use Rattle.structure_list.specs.number_sets.Sets.{has, kept, IsRising}
 use Rattle.structure_list.proofs.number_sets.Cited.{has-first, has-rest}
+use Rattle.structure_list.proofs.integer_laws.Cited.{le_true, true_le}
 use Rattle.structure_list.proofs.flow_rules.Cited.{at_most_from}
 use Rattle.flow_program.proofs.Cited.{walk_next}
 use Rattle.structure_list.specs.flow_rules.Charge.{Knee, inserted, sorted}
@@ -82,16 +81,6 @@ first_counts f m (x ∷ xs) r (inr q) =
 abbrev AreAbove : ℤ → List Knee → Type 0
 AreAbove b [] = Unit {0}
 AreAbove b (k ∷ ks) = (b ≤ℤ k.at) × AreAbove b ks
-
-true_from_T : (b : Bool) → T b → b ≡ true
-true_from_T true h = refl
-true_from_T false h = absurd h
-
-le_true : (x y : ℤ) → x ≤ℤ y → int_le x y ≡ true
-le_true x y h = true_from_T (le_z x y) h.le
-
-pub true_le : (x y : ℤ) → int_le x y ≡ true → x ≤ℤ y
-true_le x y h = le_z_yes (T_from_true (le_z x y) h)
 
 le_false : (x y : ℤ) → y <ℤ x → int_le x y ≡ false
 le_false x y h = at (int_le x y) refl

@@ -2,10 +2,9 @@
 use Rattle.std.proofs.Common.{◌≡◌, ◌≢◌, ℕ, ◌+◌, ◌<◌, Bool, true, false, List, [], ◌∷◌, length, drop}
 use Rattle.std.proofs.Common.{get_or, set, replicate, refl, sym, ap, ◌∙◌, subst, arith, pos, ℤ}
 use Rattle.std.proofs.lemmas.List.{drop_more, get_or-set_same, get_or-set_other, length-set}
-use Rattle.std.specs.Prelude.{◌==◌, ◌||◌}
-use Rattle.std.proofs.lemmas.Bool.{both_ways}
 use Rattle.structure_list.specs.number_sets.Sets.{has, IsSet, IsWithin}
 use Rattle.structure_list.specs.flow_rules.Net.{beside}
+use Rattle.structure_list.proofs.flow_rules.Cited.{beside_none}
 use Rattle.flow_program.proofs.Cited.{IsNext, has_next, passed, rest_within, beside_at}
 use Rattle.charges.proofs.OwnLemmas.{same_all}
 
@@ -84,16 +83,6 @@ tabled_more n numbers values table left k j rest value whole same next v so_far 
         let other : i ≢ j = λ e. clash (has left j) (has_next n left j rest next)
         (subst (λ w. has left w ≡ false) e gone) in
         rw get_or-set_other (so_far.filled i there gone)
-
-neither : (a b : Bool) → (a || b) ≡ false → (a ≡ false) × (b ≡ false)
-neither true b h = absurd (both_ways true h refl)
-neither false b h = (refl, h)
-
-beside_none : (xs : List ℕ) (zs : List ℤ) (j : ℕ) → has xs j ≡ false → beside xs zs j ≡ pos 0
-beside_none [] zs j h = refl
-beside_none (x ∷ xs) [] j h = refl
-beside_none (x ∷ xs) (z ∷ zs) j h = let n = neither (x == j) (has xs j) h in
-    rw n.0 (beside_none xs zs j n.1)
 
 pub tabled_all : (n : ℕ) (numbers : List ℕ) (values table : List ℤ) (left : List ℕ) (k : ℕ) → left
     ≡ [] → IsTabled n numbers values table left k → (j : ℕ) → get_or table j (pos 0)

@@ -1,9 +1,8 @@
 -- The answers, from what a bench keeps at the node of the units.
-use Rattle.std.proofs.Common.{◌≡◌, ℕ, ◌<◌, true, ℤ, pos, ◌*ℤ◌, ◌≤ℤ◌, List, [], ◌∷◌, length, refl}
-use Rattle.std.proofs.Common.{sym, ap, ◌∙◌, subst}
+use Rattle.std.proofs.Common.{◌≡◌, ℕ, ◌<◌, true, ℤ, pos, ◌*ℤ◌, ◌≤ℤ◌, List, length, refl, sym, ap}
+use Rattle.std.proofs.Common.{◌∙◌, subst}
 use Rattle.dual_simplex.specs.number_sets.Sets.{has, IsSet}
 use Rattle.dual_simplex.proofs.number_sets.Cited.{below_from}
-use Rattle.dual_simplex.specs.integer_laws.Range.{InRange}
 use Rattle.dual_simplex.specs.problem_rules.Problem.{Problem}
 use Rattle.dual_simplex.specs.problem_rules.Validity.{IsValid}
 use Rattle.dual_simplex.specs.pns_rules.Shape.{shape_of}
@@ -13,17 +12,10 @@ use Rattle.dual_simplex.specs.flow_rules.Net.{Net, net_of, beside}
 use Rattle.dual_simplex.specs.flow_rules.Flows.{IsFlows, cost}
 use Rattle.dual_simplex.specs.flow_rules.Program.{Program, program_of}
 use Rattle.dual_simplex.specs.flow_rules.Relaxed.{bound, units, rows}
-use Rattle.dual_simplex.specs.flow_rules.Steps.{AreInRange, last_from}
 use Rattle.dual_simplex.specs.Bench.{Bench, IsLeastOf}
 use Rattle.node_evaluation.specs.tree_rules.LeastFlows.{decided, rows_of}
 use Rattle.flow_evaluator.specs.Laws.{ProvedIsLeast}
 use Rattle.flow_evaluator.specs.Answers.{IsLeastFor}
-
--- the last of numbers in range is in range
-pub last_in_range : (before : ℤ) (zs : List ℤ) → InRange before → AreInRange zs
-    → InRange (last_from before zs)
-last_in_range before [] h k = h
-last_in_range before (z ∷ zs) h k = last_in_range z zs k.0 k.1
 
 pub set_of_problem : (n : ℕ) (us : List ℕ) → IsSet 128 us → ((u : ℕ) → has us u ≡ true → u < n)
     → IsSet n us

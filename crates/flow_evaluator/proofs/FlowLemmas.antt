@@ -1,11 +1,10 @@
 -- What the bench keeps of a node, in the form that a search takes.
-use Rattle.std.proofs.Common.{◌≡◌, ℕ, Bool, true, false, not, ℤ, pos, ◌*ℤ◌, ◌≤ℤ◌, List, [], ◌∷◌}
-use Rattle.std.proofs.Common.{length, Some, None, refl, sym, ap, ◌∙◌, subst, arith}
+use Rattle.std.proofs.Common.{◌≡◌, ℕ, Bool, true, false, not, ℤ, pos, ◌*ℤ◌, ◌≤ℤ◌, List, length}
+use Rattle.std.proofs.Common.{Some, None, refl, sym, ap, ◌∙◌, subst, arith}
 use Rattle.std.specs.Prelude.{◌&&◌}
 use Rattle.std.proofs.lemmas.Int.{ints}
 use Rattle.dual_simplex.specs.number_sets.Sets.{has, IsRising}
 use Rattle.dual_simplex.proofs.number_sets.Cited.{below_from, listed-is}
-use Rattle.dual_simplex.specs.integer_laws.Range.{InRange}
 use Rattle.dual_simplex.specs.problem_rules.Problem.{Problem}
 use Rattle.dual_simplex.specs.problem_rules.Validity.{IsValid}
 use Rattle.dual_simplex.specs.pns_rules.Shape.{shape_of}
@@ -16,16 +15,15 @@ use Rattle.dual_simplex.specs.unit_sets.declared.node.Node.{Node}
 use Rattle.dual_simplex.specs.exact_numbers.declared.number.Mixed.{Mixed}
 use Rattle.dual_simplex.specs.exact_numbers.Number.{numerator, denominator}
 use Rattle.dual_simplex.specs.exact_numbers.MixedOrderLaws.{denominator_positive}
-use Rattle.node_evaluation.specs.tree_rules.Leaf.{Scaled}
+use Rattle.node_evaluation.specs.tree_rules.Leaf.{Scaled, bounded, IsFormed, IsBounded, multiplier}
 use Rattle.dual_simplex.specs.flow_rules.Net.{net_of, beside}
 use Rattle.dual_simplex.specs.flow_rules.Flows.{IsFlows, cost}
 use Rattle.dual_simplex.specs.flow_rules.Program.{Program, program_of}
 use Rattle.dual_simplex.specs.flow_rules.Relaxed.{bound, units}
-use Rattle.dual_simplex.specs.flow_rules.Steps.{AreInRange, last_from}
+use Rattle.dual_simplex.specs.flow_rules.Steps.{AreInRange}
 use Rattle.dual_simplex.specs.flow_rules.CostSteps.{cost_steps}
 use Rattle.dual_simplex.specs.flow_rules.FeasibleSteps.{feasible_steps}
 use Rattle.dual_simplex.specs.path_laws.Ends.{IsSplit}
-use Rattle.node_evaluation.specs.tree_rules.Leaf.{bounded, IsFormed, IsBounded, multiplier}
 use Rattle.node_evaluation.specs.tree_rules.Claim.{Network, CostOver}
 use Rattle.dual_simplex.specs.Bench.{Bench, IsLeastOf, AreFlowsOf}
 use Rattle.dual_simplex.specs.Laws.{ScaleIsPositive, BoundIsReached, BoundIsLeast}
@@ -47,12 +45,6 @@ no_more a b e = omega (arith, ints)
 
 no_less : (a b : ℤ) → a ≡ b → b ≤ℤ a
 no_less a b e = omega (arith, ints)
-
--- the last of numbers in range is in range
-pub last_in_range : (before : ℤ) (zs : List ℤ) → InRange before → AreInRange zs
-    → InRange (last_from before zs)
-last_in_range before [] h k = h
-last_in_range before (z ∷ zs) h k = last_in_range z zs k.0 k.1
 
 -- equals replaced by equals
 pub carried : (P : List ℕ → List ℤ → ℤ → Type 0) (us vs : List ℕ) (zs ws : List ℤ) (d e : ℤ)

@@ -11,6 +11,7 @@ pub mod RoomLemmas
 pub mod StructureKnownLemmas
 pub mod ToldLemmas
 pub mod ValueLemmas
+pub use Rattle.node_evaluation.proofs.flow_rules as flow_rules
 pub use Rattle.dual_simplex.proofs.exact_numbers as exact_numbers
 pub use Rattle.dual_simplex.proofs.pns_problem as pns_problem
 pub use Rattle.dual_simplex.proofs.pgraph as pgraph

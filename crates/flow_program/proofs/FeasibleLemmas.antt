@@ -17,8 +17,7 @@ use Rattle.pgraph.specs.problem_rules.Problem.{Problem, rate_of, terms_have, uni
 use Rattle.pgraph.specs.problem_rules.WellFormed.{IsWellFormed}
 use Rattle.pgraph.specs.pns_rules.Shape.{Shape, IsProper}
 use Rattle.pgraph.specs.pns_rules.Structure.{mats}
-use Rattle.pgraph.specs.flow_rules.Net.{Net, net_of, beside, units_of, materials_of, low_end}
-use Rattle.pgraph.specs.flow_rules.Net.{high_end}
+use Rattle.pgraph.specs.flow_rules.Net.{Net, net_of, units_of, materials_of, low_end, high_end}
 use Rattle.pgraph.specs.flow_rules.Flows.{IsFlows, balance}
 use Rattle.pgraph.specs.flow_rules.Steps.{AreInRange, IsFirstPast}
 use Rattle.pgraph.specs.flow_rules.FeasibleSteps.{units_at, balance_steps, materials_steps}
@@ -348,16 +347,6 @@ all_at P (x ∷ xs) i h e = at (x == i) refl e (λ g. all_at P xs i h.1 g)
     at : (b : Bool) → (x == i) ≡ b → (b || has xs i) ≡ true → (has xs i ≡ true → P i) → P i
     at true f g rest = subst P (eqb-true x i f) h.0
     at false f g rest = rest g
-
-pub beside_none : (xs : List ℕ) (zs : List ℤ) (i : ℕ) → has xs i ≡ false → beside xs zs i ≡ pos 0
-beside_none [] zs i h = refl
-beside_none (x ∷ xs) [] i h = refl
-beside_none (x ∷ xs) (z ∷ zs) i h = let n =
-    neither (x == i) (has xs i) h in rw n.0 (beside_none xs zs i n.1)
-  where
-    neither : (a b : Bool) → (a || b) ≡ false → (a ≡ false) × (b ≡ false)
-    neither true b e = cc
-    neither false b e = (refl, e)
 
 balances-same : (net : Net) (z z' : ℕ → ℤ) (j : ℕ) (is : List ℕ) (sum : ℤ) → Agree z z' is
     → balance_steps net z j is sum ≡ balance_steps net z' j is sum

@@ -1,11 +1,10 @@
 -- The sets of a node's program.
-use Rattle.std.proofs.Common.{◌≡◌, ℕ, zero, suc, ◌<◌, List, true, false, Bool, refl, sym, ap, ◌∙◌}
-use Rattle.std.proofs.Common.{arith}
+use Rattle.std.proofs.Common.{◌≡◌, ℕ, ◌<◌, List, true, false, Bool, refl, sym, ap, ◌∙◌}
 use Rattle.std.specs.Prelude.{nat_lt, not, ◌&&◌, ◌||◌}
 use Rattle.std.proofs.lemmas.Bool.{lt-ltb, ltb-true}
-use Rattle.pgraph.specs.number_sets.Sets.{has, listed, minus, any_below, IsRising, IsSet}
+use Rattle.pgraph.specs.number_sets.Sets.{has, listed, minus, IsRising, IsSet}
 use Rattle.pgraph.proofs.number_sets.Cited.{has-listed, has-minus, same_sets, IsRising-listed}
-use Rattle.pgraph.proofs.number_sets.Cited.{any_below-some, listed-is, below_from}
+use Rattle.pgraph.proofs.number_sets.Cited.{any_below-some, listed-is, below_from, any_same}
 use Rattle.pgraph.specs.pns_rules.Shape.{Shape, IsProper}
 use Rattle.pgraph.specs.pns_rules.Structure.{mats, is_used, is_made}
 use Rattle.pgraph.specs.pns_rules.Nodes.{Node}
@@ -27,10 +26,6 @@ pub set_listed : (n : ℕ) (set : List ℕ) → IsSet 128 set → ((u : ℕ) →
     → listed n (has set) ≡ set
 set_listed n set is known =
     listed-is n set (record { rising = is.rising; below = below_from n set known })
-
-any_same : (n : ℕ) (s t : ℕ → Bool) → ((u : ℕ) → u < n → s u ≡ t u) → any_below n s ≡ any_below n t
-any_same zero s t h = refl
-any_same (suc n) s t h = λ i. h n (omega arith) i || any_same n s t (λ u l. h u (omega arith)) i
 
 -- the materials of two sets with the same units below the limit
 mats_same : (g : Shape) (s t : ℕ → Bool) → ((u : ℕ) → u < g.units → s u ≡ t u) → (j : ℕ)

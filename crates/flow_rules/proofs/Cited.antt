@@ -1,10 +1,12 @@
 -- What the proofs of other crates cite.
+pub use Rattle.flow_rules.proofs.BesideLemmas.{beside_none}
 pub use Rattle.flow_rules.proofs.ChargeDualityLemmas.{charge_duality, charge_refutes, flows_fit}
 pub use Rattle.flow_rules.proofs.ChargeDualityLemmas.{own_facts_hold}
 pub use Rattle.flow_rules.proofs.DualityLemmas.{flows_are_relaxed, refutation_holds}
 pub use Rattle.flow_rules.proofs.DualityLemmas.{refuted_is_empty, relaxed_costs_less}
 pub use Rattle.flow_rules.proofs.DualityLemmas.{relaxed_duality, weak_duality_holds}
-pub use Rattle.flow_rules.proofs.LastLemmas.{bound_is_last, total_at_rows, total_at_units}
+pub use Rattle.flow_rules.proofs.LastLemmas.{bound_is_last, last_in_range, total_at_rows}
+pub use Rattle.flow_rules.proofs.LastLemmas.{total_at_units}
 pub use Rattle.flow_rules.proofs.LeadingLemmas.{AreInRange-append, IsFirstPast-left}
 pub use Rattle.flow_rules.proofs.LeadingLemmas.{IsFirstPast-right, Leads, leads_all, leads_none}
 pub use Rattle.flow_rules.proofs.LeadingLemmas.{leads_one, leads_part, leads_past, leads_past_in}

@@ -4,6 +4,7 @@ use Rattle.std.proofs.Common.{◌∷◌, ◌++◌, Bool, true, false, cond}
 use Rattle.std.specs.Prelude.{not, ◌&&◌}
 use Rattle.std.specs.Ordering.{int_eq}
 use Rattle.std.proofs.lemmas.Int.{ints}
+use Rattle.integer_laws.specs.Range.{InRange}
 use Rattle.integer_laws.specs.Total.{total}
 use Rattle.pns_rules.specs.Structure.{mats}
 use Rattle.pns_rules.specs.Nodes.{Node}
@@ -11,7 +12,7 @@ use Rattle.flow_rules.specs.Net.{Net, net_of, trillion, size_cost, units_of}
 use Rattle.flow_rules.specs.Flows.{cost, balance}
 use Rattle.flow_rules.specs.Relaxed.{stays, units, rows, unit_low, unit_cost, fixed_cost}
 use Rattle.flow_rules.specs.Relaxed.{reduced_cost, row_part, unit_part}
-use Rattle.flow_rules.specs.Steps.{last_from}
+use Rattle.flow_rules.specs.Steps.{last_from, AreInRange}
 use Rattle.flow_rules.specs.BoundSteps.{least_steps, rows_steps, rows_at, reduced_steps, unit_steps}
 use Rattle.flow_rules.specs.BoundSteps.{units_steps}
 use Rattle.flow_rules.specs.CostSteps.{cost_steps_from}
@@ -19,6 +20,12 @@ use Rattle.flow_rules.specs.FeasibleSteps.{units_at, balance_steps}
 use Rattle.flow_rules.specs.Laws.{BoundIsLast, CostIsLast, ReducedIsLast, BalanceIsLast}
 use Rattle.flow_rules.proofs.ListedLemmas.{total-sets}
 use Rattle.flow_rules.proofs.ZeroLemmas.{zero_from}
+
+-- the last of numbers in range is in range
+pub last_in_range : (before : ℤ) (zs : List ℤ) → InRange before → AreInRange zs
+    → InRange (last_from before zs)
+last_in_range before [] h k = h
+last_in_range before (z ∷ zs) h k = last_in_range z zs k.0 k.1
 
 pub last-append : (before : ℤ) (xs ys : List ℤ)
     → last_from before (xs ++ ys) ≡ last_from (last_from before xs) ys

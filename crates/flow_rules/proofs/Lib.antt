@@ -1,4 +1,5 @@
 pub mod ChargeDualityLemmas
+pub mod BesideLemmas
 pub mod ChargeLemmas
 mod ChargeWorked
 pub mod Cited

@@ -1,13 +1,13 @@
 -- What holds of the numbers of each valid problem.
 use Rattle.std.proofs.Common.{◌≡◌, ℕ, ◌<◌, refl, arith, pos, negsuc, ℤ, ◌+ℤ◌, ◌*ℤ◌, ◌≤ℤ◌, List, []}
-use Rattle.std.proofs.Common.{◌∷◌, Bool, true, false, length}
-use Rattle.std.specs.Prelude.{int_lt, ◌==◌, ◌||◌}
+use Rattle.std.proofs.Common.{◌∷◌, true, false, length}
+use Rattle.std.specs.Prelude.{int_lt, ◌==◌}
 use Rattle.std.proofs.lemmas.Int.{ints}
 use Rattle.std.proofs.lemmas.Bool.{ltb-false}
+use Rattle.pns_rules.proofs.number_sets.Cited.{neither}
 use Rattle.integer_laws.proofs.Cited.{mul_nonneg}
 use Rattle.pns_rules.specs.problem_rules.Problem.{Problem, Term, material_at, unit_at, no_material}
-use Rattle.pns_rules.specs.problem_rules.Problem.{no_unit}
-use Rattle.pns_rules.specs.problem_rules.Problem.{terms_have, rate_in, rate_of}
+use Rattle.pns_rules.specs.problem_rules.Problem.{no_unit, terms_have, rate_in, rate_of}
 use Rattle.pns_rules.specs.problem_rules.Validity.{IsValid}
 use Rattle.pns_rules.specs.problem_rules.WellFormed.{IsWellFormed, IsWellFormedMaterial}
 use Rattle.pns_rules.specs.problem_rules.WellFormed.{IsWellFormedUnit}
@@ -40,10 +40,6 @@ not_negative_from (negsuc n) e = cc
 over_years : (years yearly once : ℤ) → pos 0 ≤ℤ years → pos 0 ≤ℤ yearly → pos 0 ≤ℤ once
     → pos 0 ≤ℤ (years *ℤ yearly +ℤ once)
 over_years years yearly once h k l = let p = mul_nonneg years yearly h k in omega (arith, ints, p)
-
-neither : (a b : Bool) → (a || b) ≡ false → (a ≡ false) × (b ≡ false)
-neither true b e = cc
-neither false b e = (refl, e)
 
 pub no_rate_in : (ts : List Term) (x : ℕ) → terms_have ts x ≡ false → rate_in ts x ≡ pos 0
 no_rate_in [] x h = refl

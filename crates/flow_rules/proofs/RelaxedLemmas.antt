@@ -10,7 +10,7 @@ use Rattle.integer_laws.specs.Total.{total}
 use Rattle.integer_laws.proofs.Cited.{ring_z, mul_nonneg, mul-le_left, mul-le_right, total-mul}
 use Rattle.integer_laws.proofs.Cited.{total-zero, total-add, total-le}
 use Rattle.pns_rules.specs.number_sets.Sets.{IsWithin}
-use Rattle.pns_rules.proofs.number_sets.Cited.{any_below-within, any_below-none}
+use Rattle.pns_rules.proofs.number_sets.Cited.{any_below-within, any_below-none, neither}
 use Rattle.pns_rules.specs.Structure.{mats, is_used, is_made, IsBetween}
 use Rattle.pns_rules.specs.Nodes.{Node}
 use Rattle.flow_rules.specs.Net.{Net, million, trillion, size_cost, units_of}
@@ -154,10 +154,6 @@ no_rate r z e = rw e (omega (arith, ints))
 without : (a b : Bool) → (a && b) ≡ false → a ≡ true → b ≡ false
 without true b e h = e
 without false b e h = cc
-
-neither : (a b : Bool) → (a || b) ≡ false → (a ≡ false) × (b ≡ false)
-neither true b e = cc
-neither false b e = (refl, e)
 
 pub rate_of_other : (net : Net) → IsNet net → (s : ℕ → Bool) (j i : ℕ) → mats net.graph s j ≡ false
     → i < net.graph.units → s i ≡ true → net.rate j i ≡ pos 0

@@ -1,8 +1,7 @@
 -- Lines that are appended one after another.
 use Rattle.std.proofs.Common.{◌≡◌, ℕ, Bool, true, false, List, [], ◌∷◌, ◌++◌, map, refl, sym, ap}
 use Rattle.std.proofs.Common.{◌∙◌, append_assoc, append-nil, codes}
-use Rattle.std.specs.Prelude.{flat_map, if◌then◌else◌, Option, Some, None, Result, Ok, Err, OnOk}
-use Rattle.std.specs.Prelude.{IfSome, option_map}
+use Rattle.std.specs.Prelude.{flat_map, if◌then◌else◌, Option, Some, None, IfSome, option_map}
 use Rattle.report_amounts.specs.pns_problem.Printing.{printed}
 use Rattle.report_amounts.specs.report_rules.Graph.{node_line, arc_line}
 use Rattle.report_amounts.proofs.pns_problem.Cited.{after, printed-append}
@@ -21,11 +20,6 @@ after_four old t1 t2 t3 t4 x y z v e f g h =
 pub where_true : (b : Bool) (x : List ℕ) → b ≡ true → x ≡ (if b then x else [])
 where_true true x e = refl
 where_true false x e = let f : false ≡ true = e in cc
-
--- what follows of a result
-pub on_ok : {A E : Type 0} (r : Result A E) (P Q : Type 0) → (P → Q) → OnOk r P → OnOk r Q
-on_ok (Ok v) P Q more h = more h
-on_ok (Err e) P Q more h = tt
 
 pub if_some : {A : Type 0} (o : Option A) (P Q : A → Type 0) → ((a : A) → P a → Q a) → IfSome o P
     → IfSome o Q

@@ -8,6 +8,7 @@ pub use Rattle.integer_laws.proofs.IndexTotals.{total_below-first, total_below-l
 pub use Rattle.integer_laws.proofs.IndexTotals.{total_below-neg, total_below-same}
 pub use Rattle.integer_laws.proofs.IndexTotals.{total_below-single, total_below-split}
 pub use Rattle.integer_laws.proofs.IndexTotals.{total_below-sub, total_below-zero}
+pub use Rattle.integer_laws.proofs.KitLemmas.{false_lt, le_true, true_le}
 pub use Rattle.integer_laws.proofs.LowestTerms.{gcd_positive, lowest_of-gcd, lowest_unique}
 pub use Rattle.integer_laws.proofs.LowestTerms.{part_divides}
 pub use Rattle.integer_laws.proofs.Order.{cancel, cancel_le, cancel_lt, int_cmp-mul}

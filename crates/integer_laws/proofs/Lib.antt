@@ -7,3 +7,4 @@ pub mod IndexTotals
 pub mod Duality
 pub mod Coprime
 pub mod LowestTerms
+pub mod KitLemmas

@@ -1,7 +1,6 @@
 -- Pieces appended one after another.
 use Rattle.std.proofs.Common.{◌≡◌, ℕ, List, [], ◌∷◌, ◌++◌, map, refl, sym, ap, ◌∙◌, append_assoc}
 use Rattle.std.proofs.Common.{append-nil}
-use Rattle.std.specs.Prelude.{Result, Ok, Err, OnOk}
 use Rattle.tree_reading.specs.pns_problem.Printing.{printed}
 use Rattle.report_rules.specs.Json.{quoted, parted, with_comma, comma_lines, array_lines}
 use Rattle.tree_reading.proofs.pns_problem.Cited.{printed-append}
@@ -56,8 +55,3 @@ array_text old t1 t2 t3 t4 key values e1 e2 e3 e4 =
     ∙ ap (λ t. old ++ t) (sym (append_assoc (quoted key) (58 ∷ 32 ∷ 91 ∷ []) (10 ∷ []))
     ∙ sym (printed_one opening)) in
     three_blocks old t2 t3 t4 (opening ∷ []) (comma_lines values) ((93 ∷ 44 ∷ []) ∷ []) first e3 e4
-
--- what follows of a result
-pub on_ok : {A E : Type 0} (r : Result A E) (P Q : Type 0) → (P → Q) → OnOk r P → OnOk r Q
-on_ok (Ok v) P Q more h = more h
-on_ok (Err e) P Q more h = tt

@@ -8,7 +8,7 @@ use Rattle.std.proofs.lemmas.Bool.{both_ways, false_from_ne_true, true_from_ne_f
 use Rattle.std.proofs.lemmas.Bool.{cases_Bool, cases_eq}
 use Rattle.pgraph.specs.number_sets.Sets.{has, first, minus, meet, union, IsRising, IsWithin}
 use Rattle.pgraph.specs.number_sets.Sets.{Avoids}
-use Rattle.pgraph.proofs.number_sets.Cited.{has-minus, has-meet, has-union, below_not_had}
+use Rattle.pgraph.proofs.number_sets.Cited.{has-minus, has-meet, has-union, below_not_had, same_at}
 use Rattle.pgraph.specs.pns_rules.Shape.{Shape, IsProper}
 use Rattle.pgraph.specs.pns_rules.Structure.{is_made, is_used, is_needed, IsPath, HasPath}
 use Rattle.pgraph.specs.pns_rules.Nodes.{Node, raw, rival, starve, loose, sole, IsPossible, is_free}
@@ -17,7 +17,6 @@ use Rattle.pgraph.specs.pns_rules.Ends.{IsWhole}
 use Rattle.pgraph.proofs.pns_rules.Cited.{is_made-from, is_made-some, is_used-from, is_used-some}
 use Rattle.pgraph.proofs.pns_rules.Cited.{HasPath-within}
 use Rattle.pgraph.specs.Rivals.{IsRival}
-use Rattle.pgraph.specs.View.{node_of}
 use Rattle.pgraph.proofs.Cited.{first_is, some_number}
 use Rattle.neutral_extension.specs.OpenLeaf.{IsOnlyMaker}
 use Rattle.neutral_extension.specs.Tests.{is_open, MakesRaw, IsLooseSet}
@@ -33,20 +32,6 @@ first_of (x ∷ xs) P r to from = (
       (or_from (x == y) (has xs y) (ne_eqb x y (λ q. omega arith))
       (below_not_had x y xs (omega arith) r.0)) (from y p),
 )
-
-same_at : (s t : ℕ → Bool) (u : ℕ) → s ≡ t → s u ≡ t u
-same_at s t u e = ap (λ (f : ℕ → Bool). f u) e
-
--- a node with more units out, or in
-pub node_out : (i o r : List ℕ) (more : ℕ → Bool) → ((v : ℕ) → has r v ≡ (more v || has o v))
-    → node_of (record { inside = i; outside = r })
-    ≡ record { inside = has i; outside = λ v. more v || has o v }
-node_out i o r more e = λ k. record { inside = has i; outside = λ v. e v k }
-
-pub node_in : (i o r : List ℕ) (more : ℕ → Bool) → ((v : ℕ) → has r v ≡ (more v || has i v))
-    → node_of (record { inside = r; outside = o })
-    ≡ record { inside = λ v. more v || has i v; outside = has o }
-node_in i o r more e = λ k. record { inside = λ v. e v k; outside = has o }
 
 -- ---- the makers of raw materials
 

@@ -1,4 +1,5 @@
 pub mod Cited
+pub mod KitLemmas
 pub mod MaskOrder
 pub mod OptionLemmas
 pub mod OptionLists

@@ -436,3 +436,13 @@ length_below n xs r b =
       ap length (listed-is n xs record { rising = r; below = b }),
       length_listed n (has xs),
     )
+
+-- ---- tests that agree
+
+pub same_at : (s t : ℕ → Bool) (u : ℕ) → s ≡ t → s u ≡ t u
+same_at s t u e = ap (λ (f : ℕ → Bool). f u) e
+
+pub any_same : (n : ℕ) (s t : ℕ → Bool) → ((u : ℕ) → u < n → s u ≡ t u)
+    → any_below n s ≡ any_below n t
+any_same zero s t h = refl
+any_same (suc n) s t h = λ i. h n (omega arith) i || any_same n s t (λ u l. h u (omega arith)) i

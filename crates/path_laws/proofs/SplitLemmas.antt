@@ -1,14 +1,13 @@
 -- If each unit is either taken in or left out, relaxed flows are flows for the units that are taken
 -- in.
-use Rattle.std.proofs.Common.{◌≡◌, ℕ, zero, suc, ◌<◌, arith, refl, ap, sym, ◌∙◌, subst, pos, ℤ}
-use Rattle.std.proofs.Common.{◌+ℤ◌, ◌*ℤ◌, ◌≤ℤ◌, List, Bool, true, false, cond}
+use Rattle.std.proofs.Common.{◌≡◌, ℕ, ◌<◌, arith, refl, ap, sym, ◌∙◌, subst, pos, ℤ, ◌+ℤ◌, ◌*ℤ◌}
+use Rattle.std.proofs.Common.{◌≤ℤ◌, List, Bool, true, false, cond}
 use Rattle.std.specs.Prelude.{not, ◌&&◌, ◌||◌, nat_lt}
 use Rattle.std.proofs.lemmas.Int.{ints}
 use Rattle.flow_rules.specs.integer_laws.Total.{total}
 use Rattle.flow_rules.proofs.integer_laws.Cited.{V, ◌⊗◌, ring, total-add, total-agree}
 use Rattle.flow_rules.proofs.integer_laws.Cited.{total-mul_right}
-use Rattle.flow_rules.specs.number_sets.Sets.{any_below}
-use Rattle.flow_rules.proofs.number_sets.Cited.{has-listed, listed-same}
+use Rattle.flow_rules.proofs.number_sets.Cited.{has-listed, listed-same, any_same}
 use Rattle.flow_rules.specs.pns_rules.Structure.{mats}
 use Rattle.flow_rules.specs.pns_rules.Nodes.{Node}
 use Rattle.flow_rules.specs.Net.{Net, net_of, beside, trillion, size_cost, units_of, low_end}
@@ -24,10 +23,6 @@ use Rattle.path_laws.proofs.PlaceLemmas.{beside_none}
 not_not : (b : Bool) → not (not b) ≡ b
 not_not true = refl
 not_not false = refl
-
-any_same : (n : ℕ) (s t : ℕ → Bool) → ((u : ℕ) → u < n → s u ≡ t u) → any_below n s ≡ any_below n t
-any_same zero s t h = refl
-any_same (suc n) s t h = (λ i. h n (omega arith) i || any_same n s t (λ u l. h u (omega arith)) i)
 
 module _ (net : Net) (n : Node) (split : IsSplit net n) where
   stays_is : (i : ℕ) → i < net.graph.units → stays n i ≡ n.inside i

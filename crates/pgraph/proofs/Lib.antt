@@ -2,6 +2,7 @@ pub mod ArcLemmas
 pub mod AxiomLemmas
 pub mod Cited
 pub mod ExclusionLemmas
+pub mod NodeLemmas
 pub mod OptionLemmas
 pub mod PathLemmas
 pub mod TableLemmas

@@ -3,7 +3,7 @@ use Rattle.std.proofs.Common.{◌≡◌, ◌<◌, ◌≤◌, ◌+◌, ◌*◌, �
 use Rattle.std.proofs.Common.{nat_lt, List, [], ◌∷◌, map, length, ℤ, pos, neg_ℤ, ◌+ℤ◌, ◌*ℤ◌, ◌≤ℤ◌}
 use Rattle.std.proofs.Common.{refl, sym, ap, subst, ◌∙◌, inl, inr, arith}
 use Rattle.std.proofs.lemmas.Int.{ints}
-use Rattle.std.proofs.lemmas.Bool.{and_parts, ltb-true, lt-ltb, true≢false, eqb-true, or_left}
+use Rattle.std.proofs.lemmas.Bool.{and_parts, ltb-true, lt-ltb, eqb-true, or_left}
 use Rattle.std.proofs.lemmas.List.FromFn.{get_or-map-range_with_len}
 use Rattle.plan_rules.proofs.integer_laws.Cited.{cancel_le, ring_z, mul_comm_z, mul-zero_z}
 use Rattle.plan_rules.specs.number_sets.Sets.{any_below, has, listed}
@@ -14,6 +14,7 @@ use Rattle.plan_rules.specs.pns_rules.Structure.{is_used, is_made, mats, IsStruc
 use Rattle.plan_rules.proofs.pns_rules.Cited.{is_used-from}
 use Rattle.plan_rules.specs.flow_rules.Net.{Net, net_of, million, low_end, high_end, beside}
 use Rattle.plan_rules.specs.flow_rules.Flows.{balance, IsFlows, cost}
+use Rattle.plan_rules.proofs.flow_rules.Cited.{beside_none}
 use Rattle.plan_rules.specs.Expanded.{copy_of, capacity_of, one, expanded}
 use Rattle.plan_rules.specs.Plan.{Plan}
 use Rattle.plan_rules.specs.Design.{Design, is_built, net_in, IsRun, IsDesign, design_cost}
@@ -39,15 +40,6 @@ beside_made f (x ∷ xs) i = at (x == i) refl (beside_made f xs i) where
       → cond b (f x) (beside xs (map f xs) i) ≡ cond (b || has xs i) (f i) (pos 0)
   at true e rest = ap f (eqb-true x i e)
   at false e rest = rest
-
-beside_none : (xs : List ℕ) (zs : List ℤ) (i : ℕ) → has xs i ≡ false → beside xs zs i ≡ pos 0
-beside_none [] zs i e = refl
-beside_none (x ∷ xs) [] i e = refl
-beside_none (x ∷ xs) (z ∷ zs) i e = at (x == i) (has xs i) e (beside_none xs zs i) where
-  at : (b c : Bool) → (b || c) ≡ false → (c ≡ false → beside xs zs i ≡ pos 0)
-      → cond b z (beside xs zs i) ≡ pos 0
-  at true c e rest = absurd (true≢false e)
-  at false c e rest = rest e
 
 run_size : (w : Network) (first count i : ℕ) → i < count
     → beside (run_from w first count).units (run_from w first count).sizes i ≡ size_in w (first + i)

@@ -2,27 +2,23 @@
 use Rattle.std.proofs.Common.{◌≡◌, ◌==◌, ◌||◌, ◌++◌, Bool, true, false, not, nat_le, nat_lt, ℕ}
 use Rattle.std.proofs.Common.{List, length, find, Option, Some, None, if◌then◌else◌}
 use Rattle.std.specs.List.{list_any}
+use Rattle.text_lines.proofs.number_sets.Cited.{neither}
 use Rattle.text_lines.specs.problem_rules.Names.{is_name, is_among, has_double}
 use Rattle.text_lines.specs.text_rules.declared.TextKind.{TextKind}
 use Rattle.text_lines.specs.text_rules.declared.TextKind.TheVariants.{BadLine, BadName, UnknownKey}
-use Rattle.text_lines.specs.text_rules.declared.TextKind.TheVariants.{DoubleKey}
-use Rattle.text_lines.specs.text_rules.declared.TextKind.TheVariants.{UnknownKind, DoubleMaterial}
-use Rattle.text_lines.specs.text_rules.declared.TextKind.TheVariants.{TooMany}
+use Rattle.text_lines.specs.text_rules.declared.TextKind.TheVariants.{DoubleKey, UnknownKind}
+use Rattle.text_lines.specs.text_rules.declared.TextKind.TheVariants.{DoubleMaterial, TooMany}
 use Rattle.text_lines.specs.text_rules.declared.TextKind.TheVariants.{DoubleUnit, EmptySide}
-use Rattle.text_lines.specs.text_rules.declared.TextKind.TheVariants.{DoubleRates}
-use Rattle.text_lines.specs.text_rules.declared.TextKind.TheVariants.{DoubleExclusion, DoubleMember}
-use Rattle.text_lines.specs.text_rules.declared.TextKind.TheVariants.{FewMembers}
+use Rattle.text_lines.specs.text_rules.declared.TextKind.TheVariants.{DoubleRates, DoubleExclusion}
+use Rattle.text_lines.specs.text_rules.declared.TextKind.TheVariants.{DoubleMember, FewMembers}
 use Rattle.text_lines.specs.text_rules.Line.{is_colon}
 use Rattle.text_lines.specs.text_rules.Field.{has_key, material_keys, unit_keys}
 use Rattle.text_lines.specs.text_rules.Term.{Pair}
 use Rattle.text_lines.specs.text_rules.Fault.{or_kind, number_kinds, item_stands, has_unknown_key}
-use Rattle.text_lines.specs.text_rules.Fault.{keys_in}
-use Rattle.text_lines.specs.text_rules.Fault.{fields_fault, is_unknown_kind, material_rest}
-use Rattle.text_lines.specs.text_rules.Fault.{material_fault}
-use Rattle.text_lines.specs.text_rules.Fault.{is_beyond, unit_rest, unit_fault, rate_stands}
-use Rattle.text_lines.specs.text_rules.Fault.{rate_kinds}
-use Rattle.text_lines.specs.text_rules.Fault.{term_fault, doubled, whole_fault, sides_fault}
-use Rattle.text_lines.specs.text_rules.Fault.{exclusion_fault}
+use Rattle.text_lines.specs.text_rules.Fault.{keys_in, fields_fault, is_unknown_kind, material_rest}
+use Rattle.text_lines.specs.text_rules.Fault.{material_fault, is_beyond, unit_rest, unit_fault}
+use Rattle.text_lines.specs.text_rules.Fault.{rate_stands, rate_kinds, term_fault, doubled}
+use Rattle.text_lines.specs.text_rules.Fault.{whole_fault, sides_fault, exclusion_fault}
 
 -- a name that is none of these
 pub record IsNew (names : List (List ℕ)) (name : List ℕ) : Type 0 where
@@ -43,10 +39,6 @@ or_none (Some kind) two e = cc
 not_false : (b : Bool) → not b ≡ false → b ≡ true
 not_false true e = λ _. true
 not_false false e = cc
-
-neither : (a b : Bool) → (a || b) ≡ false → (a ≡ false) × (b ≡ false)
-neither true b e = cc
-neither false b e = (λ _. false, e)
 
 fields_named : (keys : List (List ℕ)) (name : List ℕ) (items : List (List ℕ))
     → fields_fault keys name items ≡ None → is_name name ≡ true

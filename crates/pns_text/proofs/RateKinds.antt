@@ -1,14 +1,13 @@
 -- Only a faulty rate can have a fault of rates.
-use Rattle.std.proofs.Common.{◌≡◌, ◌&&◌, ◌||◌, Bool, true, false, cond, not, find, Some, None, List}
-use Rattle.std.proofs.Common.{[], ◌∷◌, Result, Ok, Err, ℤ, pos, negsuc, int_lt, refl, ap, ◌∙◌}
-use Rattle.std.proofs.Common.{arith}
+use Rattle.std.proofs.Common.{◌≡◌, ◌||◌, Bool, true, false, cond, not, find, Some, None, List, []}
+use Rattle.std.proofs.Common.{◌∷◌, Result, Ok, Err, ℤ, pos, negsuc, int_lt, refl, ap, ◌∙◌, arith}
 use Rattle.std.specs.List.{list_any}
 use Rattle.std.proofs.lemmas.Bool.{le-ltb}
 use Rattle.std.specs.Result.{result_unwrap_or}
+use Rattle.text_lines.proofs.number_sets.Cited.{and_none}
 use Rattle.text_lines.specs.text_rules.declared.TextKind.{TextKind}
 use Rattle.text_lines.specs.text_rules.declared.TextKind.TheVariants.{BadNumber, TooFine, TooLarge}
-use Rattle.text_lines.specs.text_rules.declared.TextKind.TheVariants.{Negative}
-use Rattle.text_lines.specs.text_rules.declared.TextKind.TheVariants.{ZeroRate}
+use Rattle.text_lines.specs.text_rules.declared.TextKind.TheVariants.{Negative, ZeroRate}
 use Rattle.text_lines.specs.text_rules.Amount.{amount_of}
 use Rattle.text_lines.specs.text_rules.Fault.{is_bad, is_too_fine, is_too_large, millionths}
 use Rattle.text_lines.specs.text_rules.Fault.{rate_stands}
@@ -23,10 +22,6 @@ not_bad (Err kind) e = cc
 not_low : (z : ℤ) → not (int_lt (pos 0) z) ≡ false → int_lt z (pos 0) ≡ false
 not_low (pos n) e = le-ltb n 0 (omega arith)
 not_low (negsuc n) e = cc
-
-and_none : (a b : Bool) → b ≡ false → (a && b) ≡ false
-and_none true b e = e
-and_none false b e = refl
 
 none_stands : (kind : TextKind) (term : Pair) → is_faulty term ≡ false
     → rate_stands kind term ≡ false

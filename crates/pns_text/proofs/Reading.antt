@@ -1,6 +1,6 @@
 -- The reading that continues, line by line.
 use Rattle.std.proofs.Common.{◌≡◌, ◌==◌, ◌+◌, Bool, true, false, not, ℕ, suc, List, [], ◌∷◌, ◌++◌}
-use Rattle.std.proofs.Common.{length, filter, Option, Some, None, Result, Ok, Err, OnOk, inl, inr}
+use Rattle.std.proofs.Common.{length, filter, Option, Some, None, Result, Ok, Err, inl, inr}
 use Rattle.std.proofs.Common.{if◌then◌else◌, refl, sym, ◌∙◌, ap, arith, append_assoc, append-nil}
 use Rattle.std.proofs.lemmas.Bool.{ne_eqb, eqb-true}
 use Rattle.text_lines.specs.problem_rules.Problem.{Problem}
@@ -10,21 +10,14 @@ use Rattle.text_lines.specs.text_rules.Line.{Placed, without_mark, matters}
 use Rattle.text_lines.specs.text_rules.Fault as rules
 use Rattle.text_lines.specs.text_rules.Fault.{file_type, Seen, line_fault, first_fault, fault_or}
 use Rattle.text_lines.specs.text_rules.Value.{Settings, Names, first_meaning, settings_of}
-use Rattle.text_lines.specs.text_rules.Value.{names_all}
-use Rattle.text_lines.specs.text_rules.Value.{problem_from, has_product, with_product, or_first}
-use Rattle.text_lines.specs.text_rules.Value.{meaning_at}
-use Rattle.text_lines.specs.text_rules.Value.{read_lines, read_text}
+use Rattle.text_lines.specs.text_rules.Value.{names_all, problem_from, has_product, with_product}
+use Rattle.text_lines.specs.text_rules.Value.{or_first, meaning_at, read_lines, read_text}
 use Rattle.text_lines.specs.declared.fault.TextFault.{TextFault}
 use Rattle.text_lines.specs.declared.fault.TextFault.TheVariants.{At, Memory}
 use Rattle.text_lines.specs.Lines.{lines_from, IsUntyped}
 use Rattle.text_lines.specs.Tells.{Tells}
 use Rattle.pns_text.specs.Fault.{TellsKind}
 use Rattle.pns_text.specs.Walk.{Walk, walk_start, placed_at, walk_past, IsPast, to_come, read_on}
-
--- what follows if a call succeeds
-pub on_ok : {A E : Type 0} (r : Result A E) (P Q : Type 0) → (P → Q) → OnOk r P → OnOk r Q
-on_ok (Ok x) P Q f is = f is
-on_ok (Err e) P Q f is = tt
 
 -- the lines that remain, of which the next is not empty
 full : (w : Walk) (number : ℕ) (c : ℕ) (cs : List ℕ) (texts : List (List ℕ))

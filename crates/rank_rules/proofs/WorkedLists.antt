@@ -1,14 +1,10 @@
 -- Networks that are alike in a ranking or in a list of alternatives, and the causes that are
 -- reported.
-use Rattle.std.proofs.Common.{◌≡◌, ℕ, ◌==◌, ℤ, pos, ◌≤ℤ◌, ◌<ℤ◌, true, false, List, [], ◌∷◌}
-use Rattle.std.proofs.Common.{not}
-use Rattle.std.proofs.Common.{refl, inl, inr, arith}
-use Rattle.std.proofs.lemmas.Int.{ints}
+use Rattle.std.proofs.Common.{◌≡◌, ℕ, ◌==◌, ℤ, pos, true, false, List, [], ◌∷◌, refl, inl, inr}
 use Rattle.std.proofs.lemmas.Bool.{both_ways, or_cases, or_left, or_right}
-use Rattle.std.specs.Int.Signed.{lt_z, lt_z_no, lt_z_yes}
-use Rattle.std.specs.Prelude.{T}
 use Rattle.tree_text_rules.specs.number_sets.Sets.{has, IsWithin}
 use Rattle.tree_text_rules.specs.tree_rules.Claim.{Network}
+use Rattle.tree_text_rules.proofs.tree_rules.Cited.{at_most, not_at_most}
 use Rattle.rank_rules.specs.declared.naming.Naming.TheVariants.{Only, Within}
 use Rattle.rank_rules.specs.declared.why.RankWhy.TheVariants.{Order, Contains, Named, Over}
 use Rattle.rank_rules.specs.Networks.{AreAlike, like_why}
@@ -16,12 +12,6 @@ use Rattle.rank_rules.specs.Leaf.{way_why}
 
 abbrev at_cost : List ℕ → ℤ → Network
 at_cost units cost = record { units = units; sizes = []; d = pos 1; cost = cost }
-
-at_most : (a b : ℤ) → T (not (lt_z b a)) → a ≤ℤ b
-at_most a b t = lt_z_no t
-
-not_at_most : (a b : ℤ) → T (lt_z b a) → a ≤ℤ b → ⊥
-not_at_most a b t h = let less : b <ℤ a = lt_z_yes t in omega (arith, ints)
 
 within : IsWithin (has (0 ∷ 2 ∷ [])) (has (0 ∷ 1 ∷ 2 ∷ []))
 within u e =

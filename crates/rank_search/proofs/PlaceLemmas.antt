@@ -2,32 +2,20 @@
 use Rattle.std.specs.Prelude.{slice_index_or, int_le, drop, IsTrue, ◌↔◌}
 use Rattle.std.proofs.Common.{◌≡◌, ℕ, zero, suc, ◌+◌, ◌<◌, ◌≤◌, pos, ℤ, ◌*ℤ◌, ◌≤ℤ◌, Bool, true}
 use Rattle.std.proofs.Common.{false, List, [], ◌∷◌, ◌++◌, length, take, Option, refl, sym, ap}
-use Rattle.std.proofs.Common.{subst, arith, T}
-use Rattle.std.specs.Int.Signed.{le_z, le_z_yes}
+use Rattle.std.proofs.Common.{subst, arith}
 use Rattle.std.specs.List.{AllWithin}
 use Rattle.std.specs.List.Sorted.{IsPartitionedBy}
-use Rattle.std.proofs.lemmas.Float.{T_from_true}
 use Rattle.std.proofs.lemmas.Int.{ints}
+use Rattle.rank_check.proofs.integer_laws.Cited.{false_lt, le_true, true_le}
 use Rattle.rank_check.specs.tree_rules.Claim.{Network}
 use Rattle.abb_search.proofs.search_tree.Cited.{fraction_trans}
 use Rattle.rank_check.specs.rank_rules.Networks.{IsNoCheaper}
-use Rattle.rank_check.proofs.tree_laws.Cited.{false_lt}
 use Rattle.rank_check.proofs.cert_check.Cited.{append_none}
 use Rattle.rank_search.specs.Found.{FoundAt, AreRising}
 use Rattle.rank_search.specs.Listed.{Listed, AreScaled, IsListed, AreNoDearer, AreDearer, IsAdded}
 use Rattle.rank_search.specs.Listed.{IsSomeAdded, AreAdded}
 
 -- ---- tests of numbers
-
-true_from_T : (b : Bool) → T b → b ≡ true
-true_from_T true h = refl
-true_from_T false h = absurd h
-
-le_true : (x y : ℤ) → x ≤ℤ y → int_le x y ≡ true
-le_true x y h = true_from_T (le_z x y) h.le
-
-true_le : (x y : ℤ) → int_le x y ≡ true → x ≤ℤ y
-true_le x y h = le_z_yes (T_from_true (le_z x y) h)
 
 -- whether the network costs at least what the one that was found does
 abbrev pub is_no_dearer : Network → FoundAt → Bool

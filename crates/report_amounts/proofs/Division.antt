@@ -1,8 +1,7 @@
 -- A number that is divided by the factors of a product one after another.
 use Rattle.std.proofs.Common.{◌≡◌, ◌<◌, ◌≤◌, ◌+◌, ◌-◌, ◌*◌, ◌/◌, ◌%◌, ◌^◌, ◌==◌, ◌&&◌, ℕ, Bool}
 use Rattle.std.proofs.Common.{true, false, refl, sym, ap, ◌∙◌, arith}
-use Rattle.std.specs.Prelude.{ℤ, pos, unsigned_abs, int_lt, not, Result, Ok, Err, OnOk}
-use Rattle.std.specs.Prelude.{if◌then◌else◌}
+use Rattle.std.specs.Prelude.{ℤ, pos, unsigned_abs, int_lt, not, if◌then◌else◌}
 use Rattle.report_rules.specs.Decimal.{rounded_text, decimal_text, signed_text, rounded}
 use Rattle.report_rules.specs.Decimal.{places_behind, six_digits, rounded_down, six_digits_down}
 use Rattle.std.proofs.lemmas.Nat.{pow-add}
@@ -156,8 +155,3 @@ module _ (h : ℕ) (num : ℤ) (d k : ℕ) (ph : 0 < h) (pd : 0 < d) (few : k �
           + (if int_lt num (pos 0) && not (unsigned_abs num * 10 ^ k % bottom i == 0) then 1
           else 0))
           ∙ ap (λ m. rounded_down m num (2 * 10 ^ 6 * h * d)) places
-
--- what follows of a result
-pub on_ok : {A E : Type 0} (r : Result A E) (P Q : Type 0) → (P → Q) → OnOk r P → OnOk r Q
-on_ok (Ok v) P Q more h = more h
-on_ok (Err e) P Q more h = tt

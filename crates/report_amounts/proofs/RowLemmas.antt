@@ -1,7 +1,7 @@
 -- The rows of a table, written one after another.
 use Rattle.std.proofs.Common.{◌≡◌, ℕ, List, [], ◌∷◌, ◌++◌, refl, sym, ap, ◌∙◌, subst, append_assoc}
 use Rattle.std.proofs.Common.{append-nil}
-use Rattle.std.specs.Prelude.{Option, Result, Ok, Err, IfOk, OnOk}
+use Rattle.std.specs.Prelude.{Option, Result, Ok, Err, IfOk}
 use Rattle.csv.specs.Writing.{default_writer, row_text}
 use Rattle.csv.specs.declared.writer.Writer.{Writer}
 use Rattle.report_rules.specs.Table.{AreRows, records_text, IsTable}
@@ -74,7 +74,3 @@ pub if_ok : {A E : Type 0} (r : Result A E) (P Q : A → Type 0) → ((v : A) �
     → IfOk r Q
 if_ok (Ok v) P Q more h = more v h
 if_ok (Err e) P Q more h = tt
-
-pub on_ok : {A E : Type 0} (r : Result A E) (P Q : Type 0) → (P → Q) → OnOk r P → OnOk r Q
-on_ok (Ok v) P Q more h = more h
-on_ok (Err e) P Q more h = tt

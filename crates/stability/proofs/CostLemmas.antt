@@ -1,13 +1,9 @@
 -- A cost whose steps do not overflow does not overflow.
-use Rattle.std.proofs.Common.{◌≡◌, List, [], ◌∷◌, ℤ, pos, Result, Ok, Err, sym, ◌∙◌, subst, rules}
+use Rattle.std.proofs.Common.{◌≡◌, List, ℤ, pos, Result, Ok, Err, sym, ◌∙◌, subst, rules}
 use Rattle.std.specs.Prelude.{IfOk, OnOk}
 use Rattle.stability_laws.specs.integer_laws.Range.{InRange}
 use Rattle.stability_laws.specs.flow_rules.Steps.{AreInRange, last_from}
-
-last_in_range : (before : ℤ) (zs : List ℤ) → InRange before → AreInRange zs
-    → InRange (last_from before zs)
-last_in_range before [] h k = h
-last_in_range before (z ∷ zs) h k = last_in_range z zs k.0 k.1
+use Rattle.solver.proofs.flow_rules.Cited.{last_in_range}
 
 pub cost_in_range : {E : Type 0} (r : Result ℤ E) (steps : List ℤ) (sum : ℤ)
     → IfOk r (λ total. total ≡ sum) → OnOk r (AreInRange steps) → last_from (pos 0) steps ≡ sum

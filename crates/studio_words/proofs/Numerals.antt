@@ -1,11 +1,12 @@
 -- The number that digits spell, one digit after another.
 use Rattle.std.proofs.Common.{◌≡◌, ◌&&◌, ◌+◌, ◌-◌, ◌*◌, ◌<◌, ◌≤◌, ℕ, suc, Bool, true, false, List}
-use Rattle.std.proofs.Common.{[], ◌∷◌, Option, Some, None, length, get_or, drop, drop-cons, refl}
-use Rattle.std.proofs.Common.{sym, ap, ◌∙◌, cond, arith}
+use Rattle.std.proofs.Common.{[], ◌∷◌, Option, Some, None, length, get_or, drop, drop-cons, sym, ap}
+use Rattle.std.proofs.Common.{◌∙◌, cond, arith}
 use Rattle.std.specs.Prelude.{nat_le, if◌then◌else◌}
 use Rattle.std.proofs.lemmas.Bool.{lt-leb}
 use Rattle.std.specs.List.{list_all}
 use Rattle.std.specs.Char.{is_ascii_digit}
+use Rattle.studio_rules.proofs.number_sets.Cited.{and_none}
 use Rattle.studio_rules.specs.text_rules.Amount.{number_from, number_of}
 
 number_from-grows : (n : ℕ) (cs : List ℕ) → n ≤ number_from n cs
@@ -33,10 +34,6 @@ module _ (bs : List ℕ) (i : ℕ) (there : i < length bs) where
   number-next n d h =
       sym (ap (number_from n) (drop-cons bs i 0 there)
       ∙ ap (λ b. number_from (cond b (10 * n + (here - 48)) n) (drop (suc i) bs)) d) ∙ h
-
-and_none : (a b : Bool) → b ≡ false → (a && b) ≡ false
-and_none true b e = e
-and_none false b e = refl
 
 -- a number above the most stays above it
 pub spelled-above : (bs rest : List ℕ) (n most : ℕ) → number_from n rest ≡ number_of bs → most < n

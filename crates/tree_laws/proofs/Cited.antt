@@ -11,7 +11,6 @@ pub use Rattle.tree_laws.proofs.FaultLemmas.{neither, none, one_of, tree_one, tr
 pub use Rattle.tree_laws.proofs.FewLemmas.{Splits, below_weight, few, may_end, steps_count, weight}
 pub use Rattle.tree_laws.proofs.FewLemmas.{weight-append, weight_of}
 pub use Rattle.tree_laws.proofs.LeafLemmas.{HasScale, leaf_holds}
-pub use Rattle.tree_laws.proofs.LowerLemmas.{false_lt}
 pub use Rattle.tree_laws.proofs.OpenLemmas.{passes_too}
 pub use Rattle.tree_laws.proofs.SidesLemmas.{stands_apart}
 pub use Rattle.tree_laws.proofs.UpLemmas.{IsOver, over_goes_up}

@@ -1,13 +1,10 @@
 -- The lower bound of a partial tree: each structure of the start costs at least as much, also if it
 -- is one of an open leaf.
 use Rattle.std.proofs.Common.{◌≡◌, ℕ, zero, suc, ℤ, pos, ◌*ℤ◌, ◌≤ℤ◌, ◌<ℤ◌, Bool, true, false, List}
-use Rattle.std.proofs.Common.{[], ◌∷◌, ◌++◌, Option, Some, None, refl, sym, ◌∙◌, subst, inl, inr}
-use Rattle.std.proofs.Common.{arith, T}
+use Rattle.std.proofs.Common.{[], ◌∷◌, ◌++◌, Option, Some, None, refl, sym, subst, inl, inr, arith}
 use Rattle.std.specs.Prelude.{int_le, cond}
-use Rattle.std.specs.Int.Signed.{le_z, le_z_yes}
-use Rattle.std.proofs.lemmas.Float.{T_from_true}
-use Rattle.std.proofs.lemmas.Int.{ints, by_lt_z}
-use Rattle.tree_rules.proofs.integer_laws.Cited.{ring_z}
+use Rattle.std.proofs.lemmas.Int.{ints}
+use Rattle.tree_rules.proofs.integer_laws.Cited.{ring_z, false_lt, true_le}
 use Rattle.tree_rules.specs.problem_rules.Problem.{Problem}
 use Rattle.tree_rules.specs.problem_rules.Validity.{IsValid}
 use Rattle.tree_rules.specs.pns_rules.Shape.{shape_of}
@@ -28,20 +25,6 @@ use Rattle.tree_laws.proofs.LeafLemmas.{chain, low_holds}
 use Rattle.tree_laws.proofs.AcceptedLemmas.{leaves_cover, at_leaf, in_first}
 
 -- ---- tests of numbers
-
-true_from_T : (b : Bool) → T b → b ≡ true
-true_from_T true h = refl
-true_from_T false h = absurd h
-
-le_true : (x y : ℤ) → x ≤ℤ y → int_le x y ≡ true
-le_true x y h = true_from_T (le_z x y) h.le
-
-true_le : (x y : ℤ) → int_le x y ≡ true → x ≤ℤ y
-true_le x y h = le_z_yes (T_from_true (le_z x y) h)
-
-pub false_lt : (x y : ℤ) → int_le x y ≡ false → y <ℤ x
-false_lt x y h =
-    by_lt_z y x (λ lt. lt) (λ le. absurd (let t : true ≡ false = sym (le_true x y le) ∙ h in cc))
 
 -- ---- the lesser of two costs
 

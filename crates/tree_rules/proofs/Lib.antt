@@ -17,7 +17,7 @@ mod HeadWorked
 mod OpenTree
 pub mod SumLemmas
 pub mod TrimLemmas
-mod Worked
+pub mod Worked
 pub use Rattle.flow_rules.proofs.number_sets as number_sets
 pub use Rattle.flow_rules.proofs.integer_laws as integer_laws
 pub use Rattle.flow_rules.proofs.pns_rules as pns_rules

@@ -1,7 +1,7 @@
 -- The lower bound of a tree is what its open leaves prove together, with the claimed cost.
-use Rattle.std.proofs.Common.{◌≡◌, ℕ, zero, suc, ◌+◌, ℤ, pos, true, List, [], ◌∷◌, ◌++◌}
-use Rattle.std.proofs.Common.{Option, Some, None, refl, sym, ap, ◌∙◌, subst, arith, drop, length}
-use Rattle.std.proofs.Common.{◌<◌, get_or, true≢false}
+use Rattle.std.proofs.Common.{◌≡◌, ℕ, zero, suc, ◌+◌, ℤ, pos, true, List, [], ◌∷◌, ◌++◌, Option}
+use Rattle.std.proofs.Common.{Some, None, refl, sym, ap, ◌∙◌, subst, arith, drop, length, ◌<◌}
+use Rattle.std.proofs.Common.{get_or, true≢false}
 use Rattle.std.specs.Prelude.{option_map}
 use Rattle.std.specs.List.{slice_get}
 use Rattle.std.proofs.lemmas.List.{drop_all, length-map}
@@ -16,14 +16,13 @@ use Rattle.tree_parts.specs.pgraph.View.{node_of}
 use Rattle.report_rules.specs.flow_rules.Net.{net_of}
 use Rattle.report_rules.specs.flow_rules.Relaxed.{bound}
 use Rattle.report_rules.specs.flow_rules.BoundSteps.{bound_steps}
-use Rattle.report_rules.specs.flow_rules.Steps.{AreInRange, IsFirstPast, last_from}
-use Rattle.report_rules.proofs.flow_rules.Cited.{bound_is_last, not_both}
+use Rattle.report_rules.specs.flow_rules.Steps.{AreInRange, IsFirstPast}
+use Rattle.report_rules.proofs.flow_rules.Cited.{bound_is_last, not_both, last_in_range}
 use Rattle.report_rules.specs.tree_rules.Tree.{End, TreeNode, branch, leaf, after_all, below, Pass}
 use Rattle.report_rules.specs.tree_rules.Tree.{EndPasses}
 use Rattle.report_rules.specs.tree_rules.Claim.{Claim, CostOver, claimed_cost}
 use Rattle.report_rules.specs.tree_rules.Leaf.{Leaf, dead, clash, refuted, bounded, charged}
-use Rattle.report_rules.specs.tree_rules.Leaf.{untried}
-use Rattle.report_rules.specs.tree_rules.Leaf.{Scaled, LeafPasses, IsLow, multiplier}
+use Rattle.report_rules.specs.tree_rules.Leaf.{untried, Scaled, LeafPasses, IsLow, multiplier}
 use Rattle.report_rules.specs.tree_rules.Accepted.{Tree, first_node, IsPartial}
 use Rattle.report_rules.specs.tree_rules.Lower.{Low, both_low, bound_over, end_low, open_low, least}
 use Rattle.report_rules.specs.tree_rules.Lower.{lower_bound}
@@ -42,11 +41,6 @@ pub at_first : (inside outside : List ℕ) → inside ≡ [] → outside ≡ []
 at_first inside outside e f = λ i. record { inside = has (e i); outside = has (f i) }
 
 -- ---- numbers
-
-last_in_range : (before : ℤ) (zs : List ℤ) → InRange before → AreInRange zs
-    → InRange (last_from before zs)
-last_in_range before [] h k = h
-last_in_range before (z ∷ zs) h k = last_in_range z zs k.0 k.1
 
 -- a bound of which all steps are in range is in range
 bound_in_range : (p : Problem) (n : Node) (d : ℤ) (y : ℕ → ℤ)

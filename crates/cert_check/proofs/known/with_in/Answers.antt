@@ -1,7 +1,7 @@
 use Rattle.std.proofs.Common.{ℕ, List, ◌==◌, ap, ◌∙◌}
 use Rattle.tree_text_rules.specs.number_sets.Sets.{has}
 use Rattle.tree_text_rules.proofs.number_sets.Cited.{has-with_number}
-use Rattle.cert_check.proofs.NodeLemmas.{node_in}
+use Rattle.charges.proofs.pgraph.Cited.{node_in}
 use Rattle.cert_check.proofs.known.with_in.Goals as goal
 
 pub returns : goal.returns

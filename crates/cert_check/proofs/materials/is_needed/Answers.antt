@@ -1,9 +1,9 @@
 use Rattle.std.proofs.Common.{◌≡◌, ◌∙◌, ◌≤◌, ℕ, true, false, not, sym, ap, arith, subst, le-ltb}
 use Rattle.std.proofs.lemmas.Bool.{false_from_ne_true}
 use Rattle.tree_text_rules.specs.number_sets.Sets.{has}
+use Rattle.tree_laws.proofs.number_sets.Cited.{same_at}
 use Rattle.tree_text_rules.specs.pns_rules.Structure.{is_needed}
 use Rattle.charges.specs.pgraph.Tables.{shape}
-use Rattle.cert_check.proofs.SetLemmas.{same_at}
 use Rattle.cert_check.proofs.StepLemmas.{needed_known, needed_is, product_needed}
 use Rattle.cert_check.proofs.materials.is_needed.Goals as goal
 

@@ -4,7 +4,7 @@ use Rattle.tree_text_rules.proofs.number_sets.Cited.{has-union, has-with_number}
 use Rattle.tree_text_rules.specs.pns_rules.Nodes.{after}
 use Rattle.charges.specs.pgraph.Tables.{shape}
 use Rattle.charges.specs.pgraph.View.{node_of, step_of}
-use Rattle.cert_check.proofs.NodeLemmas.{node_out, node_in}
+use Rattle.charges.proofs.pgraph.Cited.{node_in, node_out}
 use Rattle.cert_check.proofs.nodes.after.Goals as goal
 
 pub returns-in-Raw : goal.returns-in-Raw

@@ -1,9 +1,9 @@
 use Rattle.std.proofs.Common.{◌∙◌, ◌≤◌, ◌<◌, ℕ, [], false, sym, refl, subst, arith}
 use Rattle.std.proofs.lemmas.Bool.{both_ways}
 use Rattle.tree_text_rules.specs.number_sets.Sets.{has}
+use Rattle.tree_laws.proofs.number_sets.Cited.{same_at}
 use Rattle.charges.specs.pgraph.Tables.{shape}
 use Rattle.charges.specs.pgraph.View.{node_of}
-use Rattle.cert_check.proofs.SetLemmas.{same_at}
 use Rattle.cert_check.proofs.StepLemmas.{starve_known, starve_makers, starve_is}
 use Rattle.cert_check.proofs.steps.starve_is_possible.Goals as goal
 

@@ -8,7 +8,7 @@ use Rattle.scaled_flows.specs.flow_rules.Net.{net_of, beside}
 use Rattle.scaled_flows.specs.flow_rules.Flows.{cost}
 use Rattle.scaled_flows.specs.flow_rules.Steps.{AreInRange}
 use Rattle.scaled_flows.specs.flow_rules.CostSteps.{cost_steps}
-use Rattle.certified_bounds.proofs.BoundLemmas.{last_in_range}
+use Rattle.branch_tree.proofs.flow_rules.Cited.{last_in_range}
 use Rattle.certified_bounds.proofs.judged.cost_of_network.Goals as goal
 
 pub returns-in-Ok-clause-in_range : goal.returns-in-Ok-clause-in_range

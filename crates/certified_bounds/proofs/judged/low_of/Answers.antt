@@ -10,8 +10,9 @@ use Rattle.scaled_flows.specs.flow_rules.Net.{net_of}
 use Rattle.scaled_flows.specs.flow_rules.Relaxed.{rows, bound}
 use Rattle.scaled_flows.specs.flow_rules.Steps.{AreInRange}
 use Rattle.scaled_flows.specs.flow_rules.BoundSteps.{bound_steps}
+use Rattle.branch_tree.proofs.flow_rules.Cited.{last_in_range}
 use Rattle.scaled_flows.specs.tree_rules.Leaf.{multiplier}
-use Rattle.certified_bounds.proofs.BoundLemmas.{last_in_range, bounded_is}
+use Rattle.certified_bounds.proofs.BoundLemmas.{bounded_is}
 use Rattle.certified_bounds.proofs.judged.low_of.Goals as goal
 
 pub bound_of-requires-clause-multipliers : goal.bound_of-requires-clause-multipliers

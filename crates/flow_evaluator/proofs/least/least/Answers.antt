@@ -17,9 +17,10 @@ use Rattle.node_evaluation.specs.tree_rules.Known.{KnowsPlace}
 use Rattle.dual_simplex.specs.PastPlace.{IsPastFlowOf}
 use Rattle.dual_simplex.specs.PastLaws.{IsPastHere}
 use Rattle.dual_simplex.specs.flow_rules.declared.place.Place.TheVariants.{Cost}
+use Rattle.node_evaluation.proofs.flow_rules.Cited.{last_in_range}
 use Rattle.node_evaluation.specs.tree_rules.LeastFlows.{decided}
 use Rattle.flow_evaluator.specs.Answers.{IsLeastFor}
-use Rattle.flow_evaluator.proofs.AnswerLemmas.{last_in_range, set_of_problem, one_each_unit}
+use Rattle.flow_evaluator.proofs.AnswerLemmas.{set_of_problem, one_each_unit}
 use Rattle.flow_evaluator.proofs.AnswerLemmas.{Reached, least_for}
 use Rattle.flow_evaluator.proofs.StructureKnownLemmas.{flow_known}
 use Rattle.flow_evaluator.proofs.least.least.Goals as goal

@@ -12,7 +12,8 @@ use Rattle.dual_simplex.specs.flow_rules.Program.{program_of}
 use Rattle.dual_simplex.specs.flow_rules.Steps.{AreInRange, IsFirstPast}
 use Rattle.dual_simplex.specs.flow_rules.CostSteps.{cost_steps}
 use Rattle.dual_simplex.specs.flow_rules.FeasibleSteps.{feasible_steps}
-use Rattle.flow_evaluator.proofs.FlowLemmas.{last_in_range, carried, is_split, units_inside}
+use Rattle.node_evaluation.proofs.flow_rules.Cited.{last_in_range}
+use Rattle.flow_evaluator.proofs.FlowLemmas.{carried, is_split, units_inside}
 use Rattle.flow_evaluator.proofs.KnownLemmas.{kept_known}
 use Rattle.flow_evaluator.proofs.sums.cost_of_flows.Goals as goal
 

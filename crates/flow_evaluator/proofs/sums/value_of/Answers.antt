@@ -12,8 +12,8 @@ use Rattle.dual_simplex.specs.flow_rules.Program.{program_of}
 use Rattle.dual_simplex.specs.flow_rules.Relaxed.{bound}
 use Rattle.dual_simplex.specs.flow_rules.Steps.{AreInRange, IsFirstPast}
 use Rattle.dual_simplex.specs.flow_rules.BoundSteps.{bound_steps}
+use Rattle.node_evaluation.proofs.flow_rules.Cited.{last_in_range}
 use Rattle.node_evaluation.specs.tree_rules.Leaf.{multiplier}
-use Rattle.flow_evaluator.proofs.FlowLemmas.{last_in_range}
 use Rattle.flow_evaluator.proofs.KnownLemmas.{kept_known}
 use Rattle.flow_evaluator.proofs.sums.value_of.Goals as goal
 

@@ -6,9 +6,10 @@ use Rattle.pgraph.specs.pns_rules.Structure.{mats}
 use Rattle.pgraph.specs.Tables.{shape}
 use Rattle.pgraph.specs.flow_rules.Net.{net_of, beside, units_of, materials_of}
 use Rattle.pgraph.specs.flow_rules.Steps.{AreInRange, IsFirstPast}
+use Rattle.pgraph.proofs.flow_rules.Cited.{beside_none}
 use Rattle.flow_program.specs.Entry.{entry}
 use Rattle.flow_program.proofs.NodeSetLemmas.{listed_had, set_listed}
-use Rattle.flow_program.proofs.FeasibleLemmas.{flows_are, materials_are, beside_none}
+use Rattle.flow_program.proofs.FeasibleLemmas.{flows_are, materials_are}
 use Rattle.flow_program.proofs.FeasibleLemmas.{feasible_steps_are}
 use Rattle.flow_program.proofs.feasibility.feasible.Goals as goal
 

@@ -1,9 +1,10 @@
 use Rattle.std.proofs.Common.{◌≡◌, ◌∙◌, ◌++◌, ap, sym, List, ℕ, string_bytes}
+use Rattle.report_amounts.proofs.number_sets.Cited.{on_ok}
 use Rattle.report_amounts.specs.problem_rules.Problem.{Term}
 use Rattle.report_amounts.specs.report_rules.Drawn.{is_spread}
 use Rattle.report_amounts.specs.report_rules.Graph.{use_line, plain_line}
 use Rattle.graph_text.specs.Kept.{picture_of}
-use Rattle.graph_text.proofs.Lines.{on_ok, if_true, if_false}
+use Rattle.graph_text.proofs.Lines.{if_true, if_false}
 use Rattle.graph_text.proofs.arcs.push_input.Goals as goal
 
 pub returns-then-is_spread : goal.returns-then-is_spread

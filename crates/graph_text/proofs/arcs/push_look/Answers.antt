@@ -1,10 +1,10 @@
 use Rattle.std.proofs.Common.{◌≡◌, ◌∙◌, ◌++◌, ap, string_bytes}
 use Rattle.std.specs.Prelude.{Option, Some}
+use Rattle.report_amounts.proofs.number_sets.Cited.{on_ok}
 use Rattle.report_amounts.specs.problem_rules.Problem.{Term}
 use Rattle.report_amounts.specs.tree_rules.Claim.{Network}
 use Rattle.report_amounts.specs.report_rules.Graph.{arc_look}
 use Rattle.graph_text.specs.Kept.{picture_of}
-use Rattle.graph_text.proofs.Lines.{on_ok}
 use Rattle.graph_text.proofs.arcs.push_look.Goals as goal
 
 pub returns-in-Some : goal.returns-in-Some

@@ -1,8 +1,8 @@
 use Rattle.std.proofs.Common.{◌≡◌, ◌∙◌, ◌++◌, ap, sym, true, List, ℕ, string_bytes}
 use Rattle.report_amounts.specs.number_sets.Sets.{has}
+use Rattle.report_amounts.proofs.number_sets.Cited.{on_ok}
 use Rattle.report_amounts.specs.report_rules.Graph.{flow_label}
 use Rattle.graph_text.specs.Kept.{picture_of}
-use Rattle.graph_text.proofs.Lines.{on_ok}
 use Rattle.graph_text.proofs.Roles.{look_inside, look_outside}
 use Rattle.graph_text.proofs.arcs.push_look_in.Goals as goal
 

@@ -2,11 +2,11 @@ use Rattle.std.proofs.Common.{◌≡◌, ◌∙◌, ◌++◌, ap, sym, false, po
 use Rattle.std.proofs.Common.{rules}
 use Rattle.std.specs.Int.{w128}
 use Rattle.std.specs.Ordering.{int_eq}
+use Rattle.report_amounts.proofs.number_sets.Cited.{on_ok}
 use Rattle.report_amounts.specs.tree_rules.Claim.{size_in}
 use Rattle.report_amounts.specs.report_rules.Drawn.{is_unit_limited}
 use Rattle.report_amounts.specs.report_rules.Graph.{flow_label}
 use Rattle.graph_text.specs.Kept.{picture_of}
-use Rattle.graph_text.proofs.Lines.{on_ok}
 use Rattle.graph_text.proofs.Roles.{running_look}
 use Rattle.graph_text.proofs.arcs.push_look_of.Goals as goal
 

@@ -2,11 +2,11 @@ use Rattle.std.proofs.Common.{◌≡◌, ◌∙◌, ◌++◌, ◌∷◌, [], ap,
 use Rattle.std.proofs.Common.{unsigned_abs, append_assoc, SFits, rules}
 use Rattle.std.specs.Int.{w128}
 use Rattle.std.proofs.lemmas.Int.{to_z-of_z}
+use Rattle.report_amounts.proofs.number_sets.Cited.{on_ok}
 use Rattle.report_amounts.specs.problem_rules.Problem.{Problem}
 use Rattle.report_amounts.proofs.pns_problem.Cited.{after}
 use Rattle.report_amounts.specs.report_rules.Drawn.{moved, arc_flow, flow_text, greatest_flow}
 use Rattle.report_amounts.specs.report_rules.Drawn.{width_words}
-use Rattle.graph_text.proofs.Lines.{on_ok}
 use Rattle.graph_text.proofs.arcs.push_moved.Goals as goal
 
 pub returns : goal.returns

@@ -1,8 +1,9 @@
 use Rattle.std.proofs.Common.{◌≡◌, ◌∙◌, ◌++◌, ap, codes, ℕ, List, string_bytes}
+use Rattle.report_amounts.proofs.number_sets.Cited.{on_ok}
 use Rattle.report_amounts.specs.problem_rules.Problem.{Problem, Term, unit_at, material_at}
 use Rattle.report_amounts.specs.report_rules.Graph.{node, use_node, unit_node, arc_end}
 use Rattle.graph_text.specs.Kept.{picture_of}
-use Rattle.graph_text.proofs.Lines.{on_ok, arc_line_of}
+use Rattle.graph_text.proofs.Lines.{arc_line_of}
 use Rattle.graph_text.proofs.arcs.push_use_arc.Goals as goal
 
 pub returns : goal.returns

@@ -1,9 +1,9 @@
 use Rattle.std.proofs.Common.{◌≡◌, ◌∙◌, ◌++◌, ap, List, ℕ, string_bytes}
+use Rattle.report_amounts.proofs.number_sets.Cited.{on_ok}
 use Rattle.report_amounts.specs.problem_rules.Problem.{Term}
 use Rattle.report_amounts.proofs.pns_problem.Cited.{after}
 use Rattle.report_amounts.specs.report_rules.Graph.{use_text, use_arc}
 use Rattle.graph_text.specs.Kept.{picture_of}
-use Rattle.graph_text.proofs.Lines.{on_ok}
 use Rattle.graph_text.proofs.arcs.push_use_input.Goals as goal
 
 pub returns : goal.returns

@@ -1,6 +1,7 @@
 use Rattle.std.proofs.Common.{◌≡◌, ◌<◌, ◌∙◌, subst, length, ◌++◌, ap, sym, true, ℕ, List}
 use Rattle.std.proofs.Common.{string_bytes}
 use Rattle.report_amounts.specs.number_sets.Sets.{has}
+use Rattle.report_amounts.proofs.number_sets.Cited.{on_ok}
 use Rattle.report_amounts.specs.problem_rules.Problem.{Problem, material_at}
 use Rattle.report_amounts.specs.pns_rules.Shape.{shape_of}
 use Rattle.report_amounts.specs.pns_rules.Structure.{mats}
@@ -8,7 +9,7 @@ use Rattle.report_amounts.specs.flow_rules.Net.{net_of, materials_of}
 use Rattle.report_amounts.specs.flow_rules.Flows.{balance}
 use Rattle.report_amounts.specs.tree_rules.Claim.{IsFeasible, size_in}
 use Rattle.report_amounts.specs.report_rules.Drawn.{net_label}
-use Rattle.graph_text.proofs.Lines.{on_ok, where_true}
+use Rattle.graph_text.proofs.Lines.{where_true}
 use Rattle.graph_text.proofs.materials.push_flow_in.Goals as goal
 
 pub push_net_of-requires-clause-known : goal.push_net_of-requires-clause-known

@@ -1,8 +1,8 @@
 use Rattle.std.proofs.Common.{◌≡◌, ◌∙◌, ◌++◌, string_bytes, SFits, rules}
 use Rattle.std.specs.Int.{w64, w128}
 use Rattle.std.proofs.lemmas.Int.{to_z-of_z}
+use Rattle.report_amounts.proofs.number_sets.Cited.{on_ok}
 use Rattle.report_amounts.specs.report_rules.Drawn.{net_label}
-use Rattle.graph_text.proofs.Lines.{on_ok}
 use Rattle.graph_text.proofs.materials.push_net_of.Goals as goal
 
 pub returns : goal.returns

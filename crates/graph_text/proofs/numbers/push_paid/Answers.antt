@@ -1,11 +1,12 @@
 use Rattle.std.proofs.Common.{◌≡◌, ◌∙◌, ◌++◌, ap, codes, ℕ, List, string_bytes, SFits, rules}
 use Rattle.std.specs.Int.{w64, w128}
 use Rattle.std.proofs.lemmas.Int.{to_z-of_z}
+use Rattle.report_amounts.proofs.number_sets.Cited.{on_ok}
 use Rattle.report_amounts.specs.flow_rules.Net.{million}
 use Rattle.report_amounts.specs.report_rules.Number.{Number, number_text}
 use Rattle.report_amounts.specs.report_rules.Amounts.{quotient}
 use Rattle.report_amounts.specs.report_rules.Drawn.{below, money}
-use Rattle.graph_text.proofs.Lines.{on_ok, after_four}
+use Rattle.graph_text.proofs.Lines.{after_four}
 use Rattle.graph_text.proofs.numbers.push_paid.Goals as goal
 
 pub returns : goal.returns

@@ -1,8 +1,9 @@
 use Rattle.std.proofs.Common.{◌≡◌, ◌∙◌, ◌++◌, ap, ℕ, List, string_bytes, unsigned_abs, SFits, rules}
 use Rattle.std.specs.Int.{w64, w128}
 use Rattle.std.proofs.lemmas.Int.{to_z-of_z}
+use Rattle.report_amounts.proofs.number_sets.Cited.{on_ok}
 use Rattle.report_amounts.specs.report_rules.Drawn.{below, way_words, flow_text, money_label}
-use Rattle.graph_text.proofs.Lines.{on_ok, after_four}
+use Rattle.graph_text.proofs.Lines.{after_four}
 use Rattle.graph_text.proofs.numbers.push_some_net.Goals as goal
 
 pub returns : goal.returns

@@ -1,8 +1,8 @@
 use Rattle.std.proofs.Common.{◌≡◌, ◌∙◌, ◌++◌, ◌∷◌, [], sym, ap, ℕ, List, string_bytes, append_assoc}
+use Rattle.report_amounts.proofs.number_sets.Cited.{on_ok}
 use Rattle.report_amounts.specs.pns_problem.Printing.{printed}
 use Rattle.report_amounts.proofs.pns_problem.Cited.{after, printed-append}
 use Rattle.report_amounts.specs.report_rules.Graph.{legend, flow_legend, total_line}
-use Rattle.graph_text.proofs.Lines.{on_ok}
 use Rattle.graph_text.proofs.text.push_total_of.Goals as goal
 
 pub returns : goal.returns

@@ -1,9 +1,10 @@
 use Rattle.std.proofs.Common.{◌≡◌, ◌∙◌, ◌++◌, ap, codes, ℕ, List, string_bytes, SFits, rules}
 use Rattle.std.specs.Int.{w64}
 use Rattle.std.proofs.lemmas.Int.{to_z-of_z}
+use Rattle.report_amounts.proofs.number_sets.Cited.{on_ok}
 use Rattle.report_amounts.specs.problem_rules.Problem.{OperatingUnit}
 use Rattle.report_amounts.specs.report_rules.Graph.{told}
-use Rattle.graph_text.proofs.Lines.{on_ok, after_four}
+use Rattle.graph_text.proofs.Lines.{after_four}
 use Rattle.graph_text.proofs.units.push_costs.Goals as goal
 
 pub returns : goal.returns

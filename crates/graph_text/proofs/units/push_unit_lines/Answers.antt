@@ -1,10 +1,10 @@
 use Rattle.std.proofs.Common.{◌≡◌, ◌∙◌, ◌++◌, ◌∷◌, [], sym, ap, map, arith, ℕ, List, string_bytes}
+use Rattle.report_amounts.proofs.number_sets.Cited.{on_ok}
 use Rattle.report_amounts.specs.problem_rules.Problem.{Problem, OperatingUnit, Term, unit_at}
 use Rattle.report_amounts.specs.pns_problem.Printing.{printed}
 use Rattle.report_amounts.proofs.pns_problem.Cited.{after, printed-append}
 use Rattle.report_amounts.specs.report_rules.Graph.{unit_line, input_line, output_line}
 use Rattle.graph_text.specs.Kept.{picture_of}
-use Rattle.graph_text.proofs.Lines.{on_ok}
 use Rattle.graph_text.proofs.units.push_unit_lines.Goals as goal
 
 pub returns : goal.returns

@@ -1,7 +1,8 @@
 use Rattle.std.proofs.Common.{◌≡◌, ◌++◌, ◌∷◌, [], ◌∙◌, sym, ap, map, ℕ, List}
+use Rattle.report_rules.proofs.number_sets.Cited.{on_ok}
 use Rattle.tree_reading.specs.pns_problem.Printing.{printed}
 use Rattle.report_rules.specs.Json.{with_comma, comma_lines}
-use Rattle.json_text.proofs.Pieces.{on_ok, two_blocks, comma_lines_last}
+use Rattle.json_text.proofs.Pieces.{two_blocks, comma_lines_last}
 use Rattle.json_text.proofs.lines.push_comma_lines.Goals as goal
 
 pub returns-in_ok-push_with_commas-in-Some : goal.returns-in_ok-push_with_commas-in-Some

@@ -4,7 +4,7 @@ use Rattle.pgraph.proofs.number_sets.Cited.{has-union, has-with_number}
 use Rattle.pgraph.specs.pns_rules.Nodes.{after}
 use Rattle.pgraph.specs.Tables.{shape}
 use Rattle.pgraph.specs.View.{node_of, step_of}
-use Rattle.neutral_extension.proofs.FindLemmas.{node_out, node_in}
+use Rattle.pgraph.proofs.Cited.{node_in, node_out}
 use Rattle.neutral_extension.proofs.turn.taken.Goals as goal
 
 pub returns-in-Raw : goal.returns-in-Raw

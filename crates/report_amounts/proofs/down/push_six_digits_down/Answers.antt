@@ -3,8 +3,9 @@ use Rattle.std.proofs.Common.{List, arith, string_bytes, unsigned_abs, SFits, ru
 use Rattle.std.specs.Prelude.{int_lt, pos, ℤ, not, if◌then◌else◌}
 use Rattle.std.specs.Int.{w128}
 use Rattle.std.proofs.lemmas.Int.{to_z-of_z, ints}
+use Rattle.report_rules.proofs.number_sets.Cited.{on_ok}
 use Rattle.report_rules.specs.Decimal.{signed_text, places_behind}
-use Rattle.report_amounts.proofs.Division.{six_down_text, on_ok}
+use Rattle.report_amounts.proofs.Division.{six_down_text}
 use Rattle.report_amounts.proofs.down.push_six_digits_down.Goals as goal
 
 pub returns : goal.returns

@@ -4,13 +4,13 @@ use Rattle.std.specs.Int.{w128}
 use Rattle.std.proofs.lemmas.Int.{to_z-of_z}
 use Rattle.csv.specs.Writing.{default_writer, row_text}
 use Rattle.report_rules.specs.number_sets.Sets.{has}
+use Rattle.report_rules.proofs.number_sets.Cited.{on_ok}
 use Rattle.report_rules.specs.text_rules.Canonical.{kind_word}
 use Rattle.report_rules.specs.flow_rules.Net.{net_of}
 use Rattle.report_rules.specs.flow_rules.Flows.{balance}
 use Rattle.report_rules.specs.tree_rules.Claim.{size_in}
 use Rattle.report_rules.specs.Table.{IsQuotient}
 use Rattle.report_amounts.specs.Written.{HasWritten}
-use Rattle.report_amounts.proofs.RowLemmas.{on_ok}
 use Rattle.report_rules.specs.problem_rules.Problem.{Material, material_at}
 use Rattle.flow_evaluator.proofs.flow_program.Cited.{material_read}
 use Rattle.report_amounts.proofs.materials.push_material.Goals as goal

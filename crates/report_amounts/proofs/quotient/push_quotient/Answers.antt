@@ -3,8 +3,9 @@ use Rattle.std.proofs.Common.{string_bytes, unsigned_abs, SFits, rules}
 use Rattle.std.specs.Prelude.{int_lt, pos, ℤ}
 use Rattle.std.specs.Int.{w128}
 use Rattle.std.proofs.lemmas.Int.{to_z-of_z, ints}
+use Rattle.report_rules.proofs.number_sets.Cited.{on_ok}
 use Rattle.report_rules.specs.Decimal.{rounded_text}
-use Rattle.report_amounts.proofs.Division.{quotient_text, on_ok}
+use Rattle.report_amounts.proofs.Division.{quotient_text}
 use Rattle.report_amounts.proofs.quotient.push_quotient.Goals as goal
 
 pub returns : goal.returns

@@ -5,11 +5,11 @@ use Rattle.std.specs.Fmt.{signed_decimal}
 use Rattle.std.proofs.lemmas.Int.{to_z-of_z}
 use Rattle.report_rules.specs.problem_rules.Problem.{OperatingUnit, unit_at}
 use Rattle.csv.specs.Writing.{default_writer, row_text}
+use Rattle.report_rules.proofs.number_sets.Cited.{on_ok}
 use Rattle.report_rules.specs.tree_rules.Claim.{size_in}
 use Rattle.report_rules.specs.Table.{IsQuotient}
 use Rattle.flow_evaluator.proofs.flow_program.Cited.{unit_read}
 use Rattle.report_amounts.specs.Written.{HasWritten}
-use Rattle.report_amounts.proofs.RowLemmas.{on_ok}
 use Rattle.report_amounts.proofs.units.push_unit.Goals as goal
 
 pub returns : goal.returns

@@ -1,8 +1,9 @@
 use Rattle.std.proofs.Common.{sym, subst}
+use Rattle.text_lines.proofs.number_sets.Cited.{on_ok}
 use Rattle.text_lines.specs.text_rules.Line.{Placed}
 use Rattle.pns_text.specs.View.{placed_view, walk_view}
 use Rattle.pns_text.specs.Walk.{IsPast}
-use Rattle.pns_text.proofs.Reading.{on_ok, read_past}
+use Rattle.pns_text.proofs.Reading.{read_past}
 use Rattle.pns_text.proofs.SeenNames.{names_past}
 use Rattle.pns_text.proofs.walk.Walk.step.Goals as goal
 
