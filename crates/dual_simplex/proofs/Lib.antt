@@ -32,6 +32,5 @@ pub use Rattle.flow_program.proofs.integer_laws as integer_laws
 pub use Rattle.flow_program.proofs.pns_rules as pns_rules
 pub use Rattle.flow_program.proofs.exact_numbers as exact_numbers
 pub use Rattle.flow_program.proofs.pns_problem as pns_problem
-pub use Rattle.flow_program.proofs.pgraph as pgraph
 pub use Rattle.flow_program.proofs as flow_program
 pub use Rattle.path_laws.proofs as path_laws

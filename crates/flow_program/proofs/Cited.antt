@@ -8,8 +8,8 @@ pub use Rattle.flow_program.proofs.CostLemmas.{lengths}
 pub use Rattle.flow_program.proofs.FeasibleLemmas.{units_are}
 pub use Rattle.flow_program.proofs.NodeSetLemmas.{listed_had, mats_known, set_listed}
 pub use Rattle.flow_program.proofs.ProgramLemmas.{program_is, range_formed}
-pub use Rattle.flow_program.proofs.RateLemmas.{get_or-any, material_read, rate_in_range, unit_read}
+pub use Rattle.flow_program.proofs.RateLemmas.{material_read, rate_in_range, unit_read}
 pub use Rattle.flow_program.proofs.SizeLemmas.{fits_small, size_add, size_mul, size_sub}
-pub use Rattle.flow_program.proofs.TableLemmas.{above_drop, beside_at}
-pub use Rattle.flow_program.proofs.WalkLemmas.{IsNext, has_next, head_had}
-pub use Rattle.flow_program.proofs.WalkLemmas.{next_of, passed, rest_within, walk_next}
+pub use Rattle.flow_program.proofs.TableLemmas.{beside_at}
+pub use Rattle.flow_program.proofs.WalkLemmas.{IsNext, has_next, head_had, next_of, passed}
+pub use Rattle.flow_program.proofs.WalkLemmas.{rest_within, walk_next}

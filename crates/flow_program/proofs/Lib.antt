@@ -16,4 +16,3 @@ pub use Rattle.exact_numbers.proofs.integer_laws as integer_laws
 pub use Rattle.pgraph.proofs.pns_rules as pns_rules
 pub use Rattle.exact_numbers.proofs as exact_numbers
 pub use Rattle.pgraph.proofs.pns_problem as pns_problem
-pub use Rattle.pgraph.proofs as pgraph

@@ -28,7 +28,7 @@ none_tabled n numbers values table h = record {
     clash : (b : Bool) → {X : Type 0} → b ≡ true → b ≡ false → X
     clash b e f = absurd (let g : true ≡ false = sym e ∙ f in cc)
 
-pub above_drop : (y : ℕ) (ys : List ℕ) (k x : ℕ) (rest : List ℕ) → IsBelowAll y ys
+above_drop : (y : ℕ) (ys : List ℕ) (k x : ℕ) (rest : List ℕ) → IsBelowAll y ys
     → drop k ys ≡ x ∷ rest → y < x
 above_drop y [] zero x rest h e = let f : [] ≡ x ∷ rest = e in cc
 above_drop y [] (suc k) x rest h e = let f : [] ≡ x ∷ rest = e in cc

@@ -16,7 +16,7 @@ pub use Rattle.flow_rules.proofs.ListedLemmas.{All-listed, total-listed, total-s
 pub use Rattle.flow_rules.proofs.NetLemmas.{IsNet, at_most_from, material_formed, net_of_formed}
 pub use Rattle.flow_rules.proofs.NetLemmas.{net_of_valid, no_rate_in, not_negative}
 pub use Rattle.flow_rules.proofs.NetLemmas.{not_negative_from, unit_formed}
-pub use Rattle.flow_rules.proofs.RelaxedLemmas.{mats_within, no_balance, no_rate, rate_of_other}
+pub use Rattle.flow_rules.proofs.RelaxedLemmas.{mats_within, no_balance, rate_of_other}
 pub use Rattle.flow_rules.proofs.RelaxedLemmas.{scaled_positive, slope_below, slope_greatest}
 pub use Rattle.flow_rules.proofs.RelaxedLemmas.{slope_positive}
 pub use Rattle.flow_rules.proofs.SameLemmas.{Agree, all_had, bound-same, bound_steps-same}

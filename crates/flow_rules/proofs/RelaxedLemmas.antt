@@ -147,7 +147,7 @@ not_of_false false e = refl
 no_size : (r z : ℤ) → z ≡ pos 0 → r *ℤ z ≡ pos 0
 no_size r z e = rw e (omega (arith, ints))
 
-pub no_rate : (r z : ℤ) → r ≡ pos 0 → r *ℤ z ≡ pos 0
+no_rate : (r z : ℤ) → r ≡ pos 0 → r *ℤ z ≡ pos 0
 no_rate r z e = rw e (omega (arith, ints))
 
 -- a unit of s neither uses nor makes what is no material of s

@@ -19,7 +19,6 @@ pub use Rattle.path_laws.proofs.StartBasisLemmas.{start-has}
 pub use Rattle.path_laws.proofs.StartLemmas.{one-other, one-same, start_is_tableau}
 pub use Rattle.path_laws.proofs.StartTableauLemmas.{start_exists}
 unfoldable pub use Rattle.path_laws.proofs.StartTableauLemmas.{right_entry, start_rows, x_entry}
-pub use Rattle.path_laws.proofs.ValueLemmas.{abs_of, abs_pos, at_least, at_most, digit_most}
-pub use Rattle.path_laws.proofs.ValueLemmas.{is_lifted}
+pub use Rattle.path_laws.proofs.ValueLemmas.{abs_pos, at_most, digit_most, is_lifted}
 pub use Rattle.path_laws.proofs.VectorLemmas.{gain-basic}
 pub use Rattle.path_laws.proofs.WithinLemmas.{values_are_within}

@@ -196,7 +196,7 @@ values_rise n b b' T T' s r l e P v ng hs sl own u pr re =
     b' T' s q) (λ q _. rise-pivot b b' T T' s r l e P v ng hs sl own u pr q) re
 
 -- ---- a fraction, its numerator lifted by m times its denominator, in natural numbers
-pub abs_of : (z : ℤ) → pos 0 ≤ℤ z → pos (unsigned_abs z) ≡ z
+abs_of : (z : ℤ) → pos 0 ≤ℤ z → pos (unsigned_abs z) ≡ z
 abs_of (pos n) h = refl
 abs_of (negsuc n) h = absurd (omega (arith, ints))
 
@@ -224,7 +224,7 @@ crossed_same m a b a' b' t t' e e' h =
     let y' = read_equal (V t' ⊕ V (pos m) ⊗ V (pos b')) (V (pos a')) e' in
     omega (arith, x, ap (λ n. n * b') y, ap (λ n. n * b) y')
 
-pub at_least : (m : ℕ) (t d : ℤ) → pos 0 <ℤ d → pos 0 ≤ℤ (t +ℤ pos m) → pos 0 ≤ℤ (t +ℤ pos m *ℤ d)
+at_least : (m : ℕ) (t d : ℤ) → pos 0 <ℤ d → pos 0 ≤ℤ (t +ℤ pos m) → pos 0 ≤ℤ (t +ℤ pos m *ℤ d)
 at_least m t (pos zero) p h = absurd (omega (arith, ints))
 at_least m t (negsuc n) p h = absurd (omega (arith, ints))
 at_least m t (pos (suc n)) p h = omega (arith, ints)
