@@ -4,6 +4,7 @@ use Rattle.std.proofs.Common.{inl, inr, append_assoc, append-nil, codes}
 use Rattle.std.specs.Prelude.{Result, Ok, Err, IfOk, MatchResult}
 use Rattle.std.specs.Io.KnownBytes.{Appends}
 use Rattle.std.proofs.KnownBytes.{Appends-trans}
+use Rattle.std.proofs.lemmas.Grind.{flat_map-append}
 use Rattle.pns_text.specs.text_rules.Outside.{HasRisen, AppendsFront}
 use Rattle.pns_text.specs.text_rules.State.{ShelfState, SinkState, OutputsState}
 use Rattle.studio_words.specs.studio_rules.Lines.{line, text_of}
@@ -128,6 +129,11 @@ one_line x = sym (append-nil (line x))
 
 pub two_lines : (x y : List ℕ) → line x ++ line y ≡ text_of (x ∷ y ∷ [])
 two_lines x y = ap (λ (t : List ℕ). line x ++ t) (sym (append-nil (line y)))
+
+-- a text with one more line
+pub text_of-push : (ls : List (List ℕ)) (l : List ℕ) → text_of (ls ++ l ∷ []) ≡ text_of ls ++ line l
+text_of-push ls l = flat_map-append line ls (l ∷ [])
+    ∙ ap (λ t. text_of ls ++ t) (append-nil (line l))
 
 -- answers that allow more
 pub Tells-map : (answers answers' : Status → List (List ℕ) → Type 0)

@@ -1,7 +1,7 @@
 -- The lines of a listing of open leaves, printed leaf by leaf.
 use Rattle.std.proofs.Common.{◌≡◌, ◌++◌, ◌+◌, ◌<◌, ◌≤◌, ℕ, zero, suc, List, [], ◌∷◌, codes, length}
 use Rattle.std.proofs.Common.{map, take, drop, get_or, refl, sym, ap, subst, ◌∙◌, arith, inr}
-use Rattle.std.proofs.Common.{append_assoc, append-nil, add-one}
+use Rattle.std.proofs.Common.{append_assoc, add-one}
 use Rattle.std.specs.Io.KnownBytes.{Appends}
 use Rattle.std.proofs.KnownBytes.{Appends-nil, Appends-trans}
 use Rattle.std.proofs.lemmas.List.{map-append, take-append-drop}
@@ -19,10 +19,7 @@ use Rattle.network_commands.specs.studio_rules.declared.status.Status.{Status}
 use Rattle.network_commands.specs.studio_rules.declared.status.Status.TheVariants.{Done, WriteFault}
 use Rattle.network_commands.specs.studio_rules.declared.status.Status.TheVariants.{Memory}
 use Rattle.network_commands.proofs.command_files.Cited.{GoesOut, Ends-after, only_in, Ends-stopped}
-
-text_of-push : (ls : List (List ℕ)) (l : List ℕ) → text_of (ls ++ l ∷ []) ≡ text_of ls ++ line l
-text_of-push ls l = flat_map-append line ls (l ∷ [])
-    ∙ ap (λ (t : List ℕ). text_of ls ++ t) (append-nil (line l))
+use Rattle.network_commands.proofs.command_files.Cited.{text_of-push}
 
 drop-here : {A : Type 0} (xs : List A) (i : ℕ) (x : A) → i < length xs → x ≡ get_or xs i x
     → drop i xs ≡ x ∷ drop (suc i) xs

@@ -21,16 +21,12 @@ use Rattle.command_files.specs.studio_rules.declared.status.Status.{Status}
 use Rattle.command_files.specs.studio_rules.declared.status.Status.TheVariants.{Done, WriteFault}
 use Rattle.command_files.specs.studio_rules.declared.status.Status.TheVariants.{Memory}
 use Rattle.command_files.proofs.Cited.{GoesOut, Ends-after, only_in, only_or_memory_in}
-use Rattle.command_files.proofs.Cited.{Ends-stopped}
+use Rattle.command_files.proofs.Cited.{Ends-stopped, text_of-push}
 
 pub last_of-push : (ss : List (List ℕ)) (s : List ℕ) → last_of (ss ++ s ∷ []) ≡ s
 last_of-push [] s = refl
 last_of-push (t ∷ []) s = refl
 last_of-push (t ∷ r ∷ ss) s = last_of-push (r ∷ ss) s
-
-text_of-push : (ls : List (List ℕ)) (l : List ℕ) → text_of (ls ++ l ∷ []) ≡ text_of ls ++ line l
-text_of-push ls l = flat_map-append line ls (l ∷ [])
-    ∙ ap (λ t. text_of ls ++ t) (append-nil (line l))
 
 -- the structures that were given are the first of the listing, and their lines are printed
 pub record IsGiven (p : Problem) (start now : Rest) (many : ℕ) (old new : SinkState)
