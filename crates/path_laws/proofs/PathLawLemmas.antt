@@ -1,4 +1,4 @@
--- The laws, in the words of their statements.
+-- The laws of the path, in the words of their statements, and what a pivot of the path does.
 use Rattle.std.specs.Prelude.{◌<◌, ℕ, ℤ, suc}
 use Rattle.flow_rules.specs.LinearProgram.{LinearProgram}
 use Rattle.flow_rules.specs.Columns.{Basis, columns, right_at, scale_at}

@@ -1,4 +1,4 @@
--- The laws, in the words of their statements.
+-- No basis is on the path twice, and the first unit below 0 in the cost row has its pivot.
 use Rattle.std.proofs.Common.{◌≡◌, ℕ, ◌-◌, ◌<◌, ◌≤◌, inl, inr, arith, sym, subst}
 use Rattle.std.specs.Prelude.{ℤ, pos, ◌<ℤ◌, ◌≤ℤ◌}
 use Rattle.std.proofs.lemmas.Int.{ints}

@@ -1,4 +1,4 @@
--- The laws, in the words of their statements.
+-- A basis has at most one tableau, and a pivot keeps the rows of a basis its tableau.
 use Rattle.std.proofs.Common.{◌≡◌, ◌≢◌, ℕ, ◌<◌, ◌≤◌, true, false, arith, ap, sym, ◌∙◌}
 use Rattle.std.specs.Prelude.{suc, ℤ}
 use Rattle.flow_rules.specs.LinearProgram.{LinearProgram}
