@@ -24,8 +24,6 @@ use Rattle.tree_laws.specs.Laws.{IsAtLeaf, LowerBoundHolds, LowerBoundOfAll}
 use Rattle.tree_laws.proofs.LeafLemmas.{chain, low_holds}
 use Rattle.tree_laws.proofs.AcceptedLemmas.{leaves_cover, at_leaf, in_first}
 
--- ---- tests of numbers
-
 -- ---- the lesser of two costs
 
 -- a cost is over a number of at least 1
